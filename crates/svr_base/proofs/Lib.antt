@@ -1,0 +1,6 @@
+mod InMemoryRuns
+mod Moved
+pub mod Prefixes
+pub mod Ends
+pub mod Rises
+pub mod RisingLists
