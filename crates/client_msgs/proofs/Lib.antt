@@ -1,0 +1,6 @@
+mod Examples
+pub mod HoldsLemmas
+pub mod MemberLemmas
+pub mod ReadOn
+pub mod RoundTrip
+pub mod SizesLemmas

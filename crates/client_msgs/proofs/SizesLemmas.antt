@@ -1,0 +1,22 @@
+-- A valid request has no fault of its sizes.
+use Rattle.std.proofs.Common.{◌≡◌, ℕ, ◌≤◌, length, Option, None, Some, refl, ap, ◌∙◌, arith}
+use Rattle.std.specs.Prelude.{nat_le, ◌&&◌}
+use Rattle.std.specs.Option.{option_or}
+use Rattle.std.proofs.lemmas.Bool.{cond-true, and_from, le-leb}
+use Rattle.svr_base.specs.declared.message.Part.{Part}
+use Rattle.svr_base.specs.declared.message.Part.TheVariants.{Secret, Pin, Tries}
+use Rattle.svr_base.specs.declared.message.Request.{Request}
+use Rattle.svr_base.specs.declared.message.Request.TheVariants.{Backup, Restore, Delete, Expose}
+use Rattle.client_msgs.specs.Sizes.{outside, pin_fault, tries_fault, size_fault, IsValid, FitsRequest}
+
+outside-none : (part : Part) (least most n : ℕ) → least ≤ n → n ≤ most → outside part least most n ≡ None
+outside-none part least most n low high = cond-true (nat_le least n && nat_le n most) None (Some (part, n)) (and_from _ _ (le-leb least n low) (le-leb n most high))
+
+pub size_fault-none : (request : Request) → IsValid request → FitsRequest request → size_fault request ≡ None
+size_fault-none (Backup secret pin tries) valid pin_is =
+    ap (λ (o : Option (Part × ℕ)). option_or o (option_or (pin_fault pin) (tries_fault tries))) (outside-none Secret 16 48 (length secret) valid.0.0 valid.0.1)
+    ∙ ap (λ (o : Option (Part × ℕ)). option_or o (tries_fault tries)) (outside-none Pin 32 32 (length pin.0) (omega arith) (omega arith))
+    ∙ outside-none Tries 1 255 tries valid.1.0 valid.1.1
+size_fault-none (Restore pin) valid pin_is = outside-none Pin 32 32 (length pin.0) (omega arith) (omega arith)
+size_fault-none Delete valid pin_is = refl
+size_fault-none (Expose secret) valid pin_is = outside-none Secret 16 48 (length secret) valid.0 valid.1

@@ -1,0 +1,4 @@
+pub mod Sizes
+pub mod Canonical
+pub mod Reading
+pub mod Gathered
