@@ -1,0 +1,4 @@
+pub mod Conf
+pub mod Marks
+pub mod Stored
+pub mod Voters

@@ -1,0 +1,39 @@
+//! Configurations of a group: who votes, how many of them make a quorum, and what a quorum has reached.
+//!
+//! A quorum is a majority and a margin more: any two of them share more than twice the margin of voters, so that
+//! they still share one voter that remembers where up to twice the margin of voters were set back.
+#![tactic(auto)]
+
+ghost use Rattle.group_quorum.specs.Conf.{QuorumsShare};
+
+mod config;
+mod marks;
+mod voters;
+
+pub use config::Config;
+
+/// The greatest number of voters in a configuration.
+pub const MAX_VOTERS: usize = 31;
+/// The greatest id of a voter; the least is 1.
+pub const MAX_ID: u32 = 65_535;
+
+/// What is wrong with a list of voters: the first of these that holds, in this order.
+#[derive(Clone, Copy, Debug, PartialEq, Eq)]
+pub enum ConfigFault {
+    /// More than [`MAX_VOTERS`] voters: how many, at most `u32::MAX`.
+    TooMany(u32),
+    /// The first number of the list that is no id.
+    BadId(u32),
+    /// The first id of the list that already stood before it.
+    Double(u32),
+    /// Fewer voters than twice the margin and one: how many.
+    TooFew(u32),
+}
+
+/// The law that any two quorums of one configuration share more than twice its margin of voters. It does nothing.
+pub fn quorums_share()
+    ensures { QuorumsShare }
+{}
+
+#[cfg(test)]
+mod tests;
