@@ -1,0 +1,15 @@
+mod Worked
+mod Clients
+mod Rows
+mod Turns
+mod Numbers
+mod Guesses
+mod Backups
+mod Earned
+mod Placed
+mod Searched
+mod SlotsLemmas
+mod Sound
+mod Copied
+mod Spelled
+mod Prefixes

@@ -1,0 +1,162 @@
+-- A table stays sound.
+use Rattle.std.proofs.Common.{◌≡◌, ℕ, zero, suc, ◌+◌, ◌-◌, ◌<◌, ◌≤◌, ◌⊎◌, inl, inr, Bool, true, false, cond, List, [], ◌∷◌, length, refl, sym, ap, subst, ◌∙◌, arith}
+use Rattle.std.specs.Prelude.{Option, Some, None, IsSome, IsSomeAnd, is_some, IfSome, All, slice_get, ◌==◌, bytes_eq}
+use Rattle.std.specs.declared.cmp.Ordering.{Ordering}
+use Rattle.std.specs.declared.cmp.Ordering.TheVariants.{Less, Equal, Greater}
+use Rattle.std.specs.Ordering.{match_ordering}
+use Rattle.std.proofs.Math.ListN.{length-set}
+use Rattle.std.proofs.lemmas.Bool.{eqb-false}
+use Rattle.svr_base.specs.declared.entry.Hash.{Hash}
+use Rattle.svr_base.specs.declared.ids.ClientId.{ClientId}
+use Rattle.svr_base.specs.declared.row.Row.{Row}
+use Rattle.svr_base.specs.declared.row.Kept.{Kept}
+use Rattle.svr_base.specs.declared.message.Request.{Request}
+use Rattle.svr_base.specs.declared.message.Request.TheVariants.{Backup, Restore, Delete, Expose}
+use Rattle.svr_base.specs.declared.message.Response.{Response}
+use Rattle.svr_base.specs.declared.message.Response.TheVariants.{Restore as Restored, Expose as Exposed}
+use Rattle.record_table.specs.declared.status.TheConstants.{OK, MISSING, ERROR}
+use Rattle.record_table.specs.Clients.{client_cmp, client_eq}
+use Rattle.record_table.specs.Table.{RecordTable, row_of, kept_in, put_row, IsRising, added}
+use Rattle.record_table.specs.declared.change.Change.{Change}
+use Rattle.record_table.specs.declared.change.Change.TheVariants.{Keep}
+use Rattle.record_table.specs.Changes.{changed, IsOutcome}
+use Rattle.record_table.specs.Rules.{act, guess, guessed_wrong}
+use Rattle.record_table.specs.Valid.{IsValid, IsValidRecord, IsValidRow, IsSound}
+use Rattle.record_table.specs.Placed.{IsRowAt}
+use Rattle.record_table.proofs.Rows.{row_of-client}
+use Rattle.record_table.proofs.Placed.{put_row-at, IsRising-put}
+
+abbrev IsValidKept : Option Kept → Type 0
+IsValidKept kept = IfSome kept IsValidRecord
+
+-- ---- a request that acts leaves a valid record
+
+one_less : (kept : Kept) (b : Bool) → (kept.left - 1 == 0) ≡ b → IsValidRecord kept
+    → IsValidKept (cond {A = Option Kept} b None (Some (record kept { left = kept.left - 1 })))
+one_less kept true e valid = tt
+one_less kept false e valid = let some = eqb-false (kept.left - 1) 0 e in let most = valid.1.1 in (valid.0, (omega arith, omega arith))
+
+guessed : (kept : Kept) (b : Bool) → IsValidRecord kept
+    → IsValidKept (cond {A = Option Kept × Response} b (Some kept, Restored OK kept.secret kept.left) (guessed_wrong kept)).0
+guessed kept true valid = valid
+guessed kept false valid = one_less kept (kept.left - 1 == 0) refl valid
+
+restored : (pin : Hash) (kept : Kept) (b : Bool) → IsValidRecord kept
+    → IsValidKept (cond {A = Option Kept × Response} b (guess pin kept) (Some kept, Restored MISSING [] 0)).0
+restored pin kept true valid = guessed kept (bytes_eq kept.pin.0 pin.0) valid
+restored pin kept false valid = valid
+
+exposed : (kept : Kept) (b : Bool) → IsValidRecord kept
+    → IsValidKept (cond {A = Option Kept × Response} b (Some (record kept { exposed = true }), Exposed OK) (Some kept, Exposed ERROR)).0
+exposed kept true valid = valid
+exposed kept false valid = valid
+
+pub act_valid : (request : Request) (kept : Option Kept) → IsValid request → IsValidKept kept → IsValidKept (act request kept).0
+act_valid (Backup secret pin tries) kept sizes valid = sizes
+act_valid (Restore pin) None sizes valid = tt
+act_valid (Restore pin) (Some kept) sizes valid = restored pin kept kept.exposed valid
+act_valid Delete kept sizes valid = tt
+act_valid (Expose secret) None sizes valid = tt
+act_valid (Expose secret) (Some kept) sizes valid = exposed kept (bytes_eq kept.secret secret) valid
+
+-- ---- putting a valid row
+
+tail : (r : Row) (rows : List Row) → All IsValidRow (r ∷ rows) → All IsValidRow rows
+tail r rows valid k d h = valid (suc k) d (omega arith)
+
+cons : (r : Row) (rows : List Row) → IsValidRow r → All IsValidRow rows → All IsValidRow (r ∷ rows)
+cons r rows here valid zero d h = here
+cons r rows here valid (suc k) d h = valid k d (omega arith)
+
+valid_put : (rows : List Row) (row : Row) → All IsValidRow rows → IsValidRow row → All IsValidRow (put_row rows row)
+valid_put [] row valid here = cons row [] here valid
+valid_put (r ∷ rows) row valid here = by (client_cmp row.client r.client) (valid_put rows row (tail r rows valid) here)
+  where
+    by : (o : Ordering) → All IsValidRow (put_row rows row) → All IsValidRow (match_ordering o (row ∷ r ∷ rows) (row ∷ rows) (r ∷ put_row rows row))
+    by Less later = cons row (r ∷ rows) here valid
+    by Equal later = cons row rows here (tail r rows valid)
+    by Greater later = cons r (put_row rows row) (valid 0 r (omega arith)) later
+
+-- a row that is found stands at some place, and is valid
+record Found (rows : List Row) (row : Row) : Type 0 where
+  place : ℕ
+  there : slice_get rows place ≡ Some row
+  valid : All IsValidRow rows → IsValidRow row
+
+found : (rows : List Row) (client : ClientId) (row : Row) → row_of rows client ≡ Some row → Found rows row
+found [] client row e = cc
+found (r ∷ rows) client row e = by (client_eq r.client client) e (found rows client row)
+  where
+    by : (b : Bool) → cond b (Some r) (row_of rows client) ≡ Some row → (row_of rows client ≡ Some row → Found rows row) → Found (r ∷ rows) row
+    by true e later = record { place = 0; there = e; valid = λ valid. let same : r ≡ row = cc in subst IsValidRow same (valid 0 r (omega arith)) }
+    by false e later = let f = later e in record { place = suc f.place; there = f.there; valid = λ valid. f.valid (tail r rows valid) }
+
+length_put : (rows : List Row) (row : Row) → length (put_row rows row) ≤ length rows + 1
+length_put [] row = omega arith
+length_put (r ∷ rows) row = by (client_cmp row.client r.client) (length_put rows row)
+  where
+    by : (o : Ordering) → length (put_row rows row) ≤ length rows + 1
+        → length (match_ordering o (row ∷ r ∷ rows) (row ∷ rows) (r ∷ put_row rows row)) ≤ length (r ∷ rows) + 1
+    by Less later = omega arith
+    by Equal later = omega arith
+    by Greater later = omega arith
+
+length_put_known : (rows : List Row) (row old : Row) → IsRising rows → row_of rows row.client ≡ Some old → length (put_row rows row) ≡ length rows
+length_put_known rows row old rising e =
+    let f = found rows row.client old e in
+    let here : IsRowAt rows row.client f.place = subst (λ o. IsSomeAnd o (λ r. r.client ≡ row.client)) (sym f.there) (row_of-client rows row.client old e) in
+    ap length (put_row-at rows f.place row rising here) ∙ length-set rows f.place row
+
+-- a valid row is put where its client is known or there is room
+pub sound_put : (table : RecordTable) (row : Row) → IsSound table → IsValidRow row → IsSome (row_of table.rows row.client) ⊎ (length table.rows < table.limit)
+    → IsSound (added table row)
+sound_put table row sound valid room = record {
+  limit_least = sound.limit_least;
+  limit_most = sound.limit_most;
+  few = fits room;
+  rising = IsRising-put table.rows row sound.rising;
+  valid = valid_put table.rows row sound.valid valid;
+}
+  where
+    known : (o : Option Row) → row_of table.rows row.client ≡ o → IsSome o → length (put_row table.rows row) ≤ table.limit
+    known None e h = absurd (cc)
+    known (Some old) e h = let same = length_put_known table.rows row old sound.rising e in let few = sound.few in omega arith
+
+    fits : IsSome (row_of table.rows row.client) ⊎ (length table.rows < table.limit) → length (put_row table.rows row) ≤ table.limit
+    fits (inl h) = known (row_of table.rows row.client) refl h
+    fits (inr h) = let longer = length_put table.rows row in omega arith
+
+-- the row of a client that is known, after a valid request has acted
+pub sound_act : (table : RecordTable) (client : ClientId) (number : ℕ) (request : Request) (kept : Option Kept) (row : Row) → IsSound table → IsValid request
+    → row_of table.rows client ≡ Some row → kept ≡ (act request row.kept).0 → IsSound (added table (record { client = client; last = number; kept = kept }))
+sound_act table client number request kept row sound sizes known is =
+    sound_put table (record { client = client; last = number; kept = kept }) sound
+    (subst IsValidKept (sym is) (act_valid request row.kept sizes ((found table.rows client row known).valid sound.valid)))
+    (inl (ap is_some known))
+
+-- the rows after a valid request of a known client has acted
+pub sound_change : (table : RecordTable) (client : ClientId) (number : ℕ) (request : Request) (change : Change) (response : Response) (row : Row) (rows : List Row)
+    → IsSound table → IsValid request → row_of table.rows client ≡ Some row → IsOutcome request row.kept (change, response)
+    → rows ≡ put_row table.rows (record { client = client; last = number; kept = changed change (kept_in (row_of table.rows client)) })
+    → IsSound (record table { rows = rows })
+sound_change table client number request change response row rows sound sizes known answered is =
+    subst (λ r. IsSound (record table { rows = r })) (sym is)
+    (sound_act table client number request (changed change (kept_in (row_of table.rows client))) row sound sizes known
+    (ap (λ r. changed change (kept_in r)) known ∙ ap (λ done. done.0) answered))
+
+-- only a backup leaves a record where there was none
+pub backs_up : (request : Request) (kept : Kept) (response : Response) → (Some kept, response) ≡ act request None
+    → (secret : List ℕ) × (pin : Hash) × (tries : ℕ) × (request ≡ Backup secret pin tries)
+backs_up (Backup secret pin tries) kept response e = (secret, pin, tries, refl)
+backs_up (Restore pin) kept response e = absurd (let f = ap (λ done. is_some done.0) e in cc)
+backs_up Delete kept response e = absurd (let f = ap (λ done. is_some done.0) e in cc)
+backs_up (Expose secret) kept response e = absurd (let f = ap (λ done. is_some done.0) e in cc)
+
+-- the rows after a valid backup of an unknown client
+pub sound_new : (table : RecordTable) (client : ClientId) (number : ℕ) (request : Request) (kept : Kept) (response : Response) (rows : List Row)
+    → IsSound table → IsValid request → IsOutcome request None (Keep kept, response) → length table.rows < table.limit
+    → rows ≡ put_row table.rows (record { client = client; last = number; kept = Some kept }) → IsSound (record table { rows = rows })
+sound_new table client number request kept response rows sound sizes answered room is =
+    subst (λ r. IsSound (record table { rows = r })) (sym is)
+    (sound_put table (record { client = client; last = number; kept = Some kept }) sound
+    (subst IsValidKept (sym (ap (λ done. done.0) answered)) (act_valid request None sizes tt)) (inr room))

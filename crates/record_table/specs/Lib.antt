@@ -1,0 +1,9 @@
+pub mod Clients
+pub mod Table
+pub mod Rules
+pub mod Places
+pub mod Valid
+pub mod Laws
+pub mod Changes
+pub mod Placed
+pub mod Slots

@@ -1,0 +1,42 @@
+//! What a request that acts makes of a client's row.
+ghost use Rattle.std.specs.Prelude.{◌≡◌};
+ghost use Rattle.record_table.specs.Changes.{changed};
+
+use svr_base::{Kept, Row};
+
+/// A change of a client's record.
+#[derive(Debug, Drop)]
+pub enum Change {
+    /// The record stays as it is, and so does its absence.
+    Stay,
+    /// There is no record any more.
+    Forget,
+    /// This record takes the place of the one before.
+    Keep(Kept),
+    /// The record's secret may be restored from now on.
+    Expose,
+    /// So many tries are left.
+    Leave(u32),
+}
+
+/// Changes the row in its place: its last number and its record. No bytes are copied.
+pub fn change_row(row: &mut Row, last: u64, change: Change)
+    ensures { row.new ≡ record row.old { last = last; kept = changed change row.old.kept } }
+{
+    row.last = last;
+    match change {
+        Change::Stay => {}
+        Change::Forget => row.kept = None,
+        Change::Keep(kept) => row.kept = Some(kept),
+        Change::Expose => {
+            if let Some(kept) = &mut row.kept {
+                kept.exposed = true;
+            }
+        }
+        Change::Leave(left) => {
+            if let Some(kept) = &mut row.kept {
+                kept.left = left;
+            }
+        }
+    }
+}

@@ -1,0 +1,20 @@
+//! The record table: a limit and a finite map from clients to rows, and the rules by which it answers.
+#![tactic(auto)]
+
+mod change;
+mod laws;
+mod order;
+mod rules;
+mod sorted;
+pub mod status;
+mod store;
+mod table;
+
+pub use change::{Change, change_row};
+pub use laws::{data_is_earned, fold_grows, guesses_end, numbers_rise, replies_stay};
+pub use sorted::SortedRows;
+pub use store::{MOST_ROWS, RowStore};
+pub use table::{Table, TableOver};
+
+#[cfg(test)]
+mod tests;

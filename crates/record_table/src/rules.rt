@@ -1,0 +1,100 @@
+//! The record rules: how a request that acts changes its client's record, and what is answered.
+ghost use Rattle.std.specs.Prelude.{◌≡◌, false, [], Some, IfOk, option_copied};
+ghost use Rattle.record_table.specs.Changes.{IsOutcome};
+
+use crate::change::Change;
+use crate::status::{ERROR, MISSING, OK, PIN_MISMATCH};
+use std::alloc::Global;
+use svr_base::{Bytes, Hash, Kept, Memory, Request, Response, TryCopy};
+
+/// What a request makes of a record that may be there, and its response.
+pub fn outcome(
+    alloc: Global,
+    request: &Request,
+    kept: Option<&Kept>,
+) -> Result<(Change, Response), Memory>
+    ensures { IfOk result (IsOutcome request.now (option_copied kept.entry)) }
+{
+    match request {
+        Request::Backup { secret, pin, tries } => back_up(alloc, secret, *pin, *tries),
+        Request::Restore { pin } => match kept {
+            Some(kept) => restore(alloc, pin, kept),
+            None => Ok((Change::Stay, missing(alloc))),
+        },
+        Request::Delete => Ok((Change::Forget, Response::Delete)),
+        Request::Expose { secret } => Ok(expose(secret, kept)),
+    }
+}
+
+/// A backup takes the place of the record: unexposed, with all its tries.
+fn back_up(
+    alloc: Global,
+    secret: &Bytes,
+    pin: Hash,
+    tries: u32,
+) -> Result<(Change, Response), Memory>
+    ensures { IfOk result (λ done. done ≡ (Change.Keep (record { secret = secret.now; pin = pin; left = tries; exposed = false }), Response.Backup OK)) }
+{
+    let kept = Kept {
+        secret: secret.copy(alloc)?,
+        pin,
+        left: tries,
+        exposed: false,
+    };
+    Ok((Change::Keep(kept), Response::Backup { status: OK }))
+}
+
+/// A restore gives the secret of an exposed record to who knows its PIN; another PIN takes one try.
+fn restore(alloc: Global, pin: &Hash, kept: &Kept) -> Result<(Change, Response), Memory>
+    ensures { IfOk result (IsOutcome (Request.Restore pin.now) (Some kept.now)) }
+{
+    if !kept.exposed {
+        return Ok((Change::Stay, missing(alloc)));
+    }
+    if kept.pin.0 == pin.0 {
+        let secret = kept.secret.copy(alloc)?;
+        let given = Response::Restore {
+            status: OK,
+            secret,
+            tries: kept.left,
+        };
+        return Ok((Change::Stay, given));
+    }
+    let left = kept.left.saturating_sub(1);
+    let change = if left == 0 {
+        Change::Forget
+    } else {
+        Change::Leave(left)
+    };
+    Ok((change, refused(alloc, PIN_MISMATCH, left)))
+}
+
+/// An expose with the record's own secret lets it be restored; any other changes nothing.
+fn expose(secret: &Bytes, kept: Option<&Kept>) -> (Change, Response)
+    ensures { IsOutcome (Request.Expose secret.now) (option_copied kept.entry) result }
+{
+    match kept {
+        Some(kept) if kept.secret.as_slice() == secret.as_slice() => {
+            (Change::Expose, Response::Expose { status: OK })
+        }
+        _ => (Change::Stay, Response::Expose { status: ERROR }),
+    }
+}
+
+/// A restore of no record, or of one that is not exposed.
+fn missing(alloc: Global) -> Response
+    ensures { result ≡ Response.Restore MISSING [] 0 }
+{
+    refused(alloc, MISSING, 0)
+}
+
+/// A restore that gives no secret.
+fn refused(alloc: Global, status: u32, tries: u32) -> Response
+    ensures { result ≡ Response.Restore status [] tries }
+{
+    Response::Restore {
+        status,
+        secret: Bytes::from(Vec::new(alloc)),
+        tries,
+    }
+}

@@ -1,0 +1,138 @@
+//! Each public call on its happy path.
+ghost use Rattle.std.specs.Prelude.{IfOk};
+ghost use Rattle.record_table.specs.Valid.{IsValid, IsValidRow};
+
+use crate::change::{Change, change_row};
+use crate::sorted::SortedRows;
+use crate::status::{OK, PIN_MISMATCH};
+use crate::store::RowStore;
+use crate::table::Table;
+use std::alloc::Global;
+use std::test::Fail;
+use svr_base::{Bytes, ClientId, Hash, Kept, Memory, Reply, Request, Response, Row};
+
+const PIN: Hash = Hash([0x11; 32]);
+
+fn client(n: u8) -> ClientId {
+    let mut bytes = [0; 16];
+    bytes[15] = n;
+    ClientId(bytes)
+}
+
+fn backup(alloc: Global) -> Result<Request, Memory>
+    ensures { IfOk result IsValid }
+{
+    Ok(Request::Backup {
+        secret: Bytes::from_slice(alloc, &[0xaa; 16])?,
+        pin: PIN,
+        tries: 3,
+    })
+}
+
+fn row(alloc: Global, n: u8) -> Result<Row, Memory>
+    ensures { IfOk result IsValidRow }
+{
+    let secret = Bytes::from_slice(alloc, &[0xaa; 16])?;
+    Ok(Row {
+        client: client(n),
+        last: 1,
+        kept: Some(Kept {
+            secret,
+            pin: PIN,
+            left: 3,
+            exposed: false,
+        }),
+    })
+}
+
+/// A table in which client 1 has an exposed record of three tries.
+fn exposed(alloc: Global) -> Result<Table, Memory> {
+    let mut table = Table::new(alloc, 10);
+    let _backed_up = table.apply(&client(1), 1, &backup(alloc)?)?;
+    let expose = Request::Expose {
+        secret: Bytes::from_slice(alloc, &[0xaa; 16])?,
+    };
+    let _exposed = table.apply(&client(1), 2, &expose)?;
+    Ok(table)
+}
+
+#[test]
+fn a_wrong_pin_takes_a_try(rt: HostRuntime) -> Result<(), Fail> {
+    let mut table = exposed(rt.alloc())?;
+    let wrong = Request::Restore {
+        pin: Hash([0x22; 32]),
+    };
+    let reply = table.apply(&client(1), 3, &wrong)?;
+    let refused = Response::Restore {
+        status: PIN_MISMATCH,
+        secret: Bytes::from_slice(rt.alloc(), &[])?,
+        tries: 2,
+    };
+    assert_eq!(rt; reply, Reply::Applied(refused));
+    Ok(())
+}
+
+#[test]
+fn the_right_pin_gives_the_secret(rt: HostRuntime) -> Result<(), Fail> {
+    let mut table = exposed(rt.alloc())?;
+    let reply = table.apply(&client(1), 9, &Request::Restore { pin: PIN })?;
+    let given = Response::Restore {
+        status: OK,
+        secret: Bytes::from_slice(rt.alloc(), &[0xaa; 16])?,
+        tries: 3,
+    };
+    assert_eq!(rt; reply, Reply::Applied(given));
+    assert_eq!(rt; table.look(&client(1)).map(|row| row.last), Some(9));
+    Ok(())
+}
+
+#[test]
+fn a_second_client_finds_no_room(rt: HostRuntime) -> Result<(), Fail> {
+    let alloc = rt.alloc();
+    let mut table = Table::new(alloc, 1);
+    let _first = table.apply(&client(1), 1, &backup(alloc)?)?;
+    assert_eq!(rt;
+        table.apply(&client(2), 1, &backup(alloc)?)?,
+        Reply::TableFull(1)
+    );
+    assert_eq!(rt; table.count(), 1);
+    assert_eq!(rt; table.limit(), 1);
+    Ok(())
+}
+
+#[test]
+fn rows_are_copied_in_the_order_of_clients(rt: HostRuntime) -> Result<(), Fail> {
+    let alloc = rt.alloc();
+    let mut table = Table::new(alloc, 3);
+    assert!(rt; table.add_row(row(alloc, 2)?)?);
+    assert!(rt; table.add_row(row(alloc, 3)?)?);
+    assert!(rt; table.add_row(row(alloc, 1)?)?);
+    assert!(rt; !table.add_row(row(alloc, 1)?)?);
+    let rows = table.copy()?.rows_from(1, 5)?;
+    assert_eq!(rt;
+        rows.as_slice(),
+        [row(alloc, 2)?, row(alloc, 3)?].as_slice()
+    );
+    Ok(())
+}
+
+#[test]
+fn a_store_keeps_its_rows_in_order(rt: HostRuntime) -> Result<(), Fail> {
+    let mut rows = SortedRows::empty(rt.alloc());
+    rows.put(row(rt.alloc(), 2)?)?;
+    rows.put(row(rt.alloc(), 1)?)?;
+    let copy = rows.copy()?;
+    assert_eq!(rt; copy.count(), 2);
+    assert_eq!(rt; copy.place(0), Some(&row(rt.alloc(), 1)?));
+    assert_eq!(rt; copy.find(&client(2)), Some(&row(rt.alloc(), 2)?));
+    Ok(())
+}
+
+#[test]
+fn a_row_is_changed_in_its_place(rt: HostRuntime) -> Result<(), Fail> {
+    let mut changed = row(rt.alloc(), 1)?;
+    change_row(&mut changed, 7, Change::Forget);
+    assert_eq!(rt; changed.last, 7);
+    assert!(rt; changed.kept.is_none());
+    Ok(())
+}
