@@ -1,0 +1,7 @@
+pub mod ReadRecords
+pub mod Courses
+pub mod Cuts
+pub mod Faults
+pub mod Endings
+pub mod Pieces
+pub mod Told

@@ -1,0 +1,14 @@
+//! Records of a source are played one by one as they come, and what they write goes to a sink.
+//!
+//! A schedule, or any other text of comma-separated records, comes in pieces of at most 65,536 bytes. The
+//! records of each whole line are played, and what they write is written, before the source is read again.
+//! What plays them is a [`Player`]: this crate proves once, for every player, what a source, a sink and
+//! want of memory can do to the text that is written.
+#![tactic(auto)]
+
+mod lines;
+mod player;
+mod source;
+
+pub use player::{Player, Stop, Unwritten};
+pub use source::{Ended, play_source};

@@ -1,0 +1,80 @@
+//! Bytes come in any pieces; each line is played as soon as it is whole.
+ghost use Rattle.std.specs.Prelude.{◌≡◌, ◌∷◌, ◌+◌, ◌*◌, ◌<◌, ◌≤◌, ◌^◌, [], OnOk, length};
+ghost use Rattle.svr_base.specs.Causes.{HasCauseAt};
+ghost use Rattle.record_stream.specs.Course.{PlaysTo};
+ghost use Rattle.record_stream.specs.Lines as spec;
+
+use crate::player::{Player, Stop};
+use csv::ReaderBuilder;
+use std::alloc::Global;
+use svr_base::Sink;
+
+/// Plays the records that a fresh reader reads of a line.
+pub fn play_line<P: Player, K: Sink>(
+    alloc: Global,
+    player: &mut P,
+    line: &[u8],
+    sink: &mut K,
+) -> Result<(), Stop<P::Reason>>
+    requires { P.count player.old + length line.now + 1 < 2 ^ 62 }
+    ensures plays { PlaysTo (P.course player.old) (spec.line_records line.now) (P.course player.new) (K.taken sink.old) (K.taken sink.new) result }
+    ensures counted { OnOk result (P.count player.new ≤ P.count player.old + length line.now + 1) }
+    ensures cause { HasCauseAt Stop.WriteFault (K.faults sink.old) (K.faults sink.new) result }
+{
+    let reader = ReaderBuilder::new()
+        .has_headers(false)
+        .flexible(true)
+        .from_reader(alloc, line);
+    for row in reader.into_byte_records() {
+        let Ok(row) = row else {
+            return Err(Stop::Memory);
+        };
+        player.play(&row, sink)?;
+    }
+    Ok(())
+}
+
+/// Takes a byte, and plays the line that it ends.
+fn take_byte<P: Player, K: Sink>(
+    alloc: Global,
+    player: &mut P,
+    pending: &mut Vec<u8>,
+    byte: u8,
+    sink: &mut K,
+) -> Result<(), Stop<P::Reason>>
+    requires { P.count player.old + length pending.old.items + 2 < 2 ^ 62 }
+    ensures plays { PlaysTo (P.course player.old) (spec.records_after pending.old.items (byte ∷ [])) (P.course player.new) (K.taken sink.old) (K.taken sink.new) result }
+    ensures rest { OnOk result (pending.new.items ≡ spec.last_part pending.old.items (byte ∷ [])) }
+    ensures counted { OnOk result (P.count player.new + 2 * length pending.new.items ≤ P.count player.old + 2 * (length pending.old.items + 1)) }
+    ensures cause { HasCauseAt Stop.WriteFault (K.faults sink.old) (K.faults sink.new) result }
+{
+    let Ok(()) = pending.push(byte) else {
+        return Err(Stop::Memory);
+    };
+    if byte != b'\n' {
+        return Ok(());
+    }
+    play_line(alloc, player, pending.as_slice(), sink)?;
+    pending.clear();
+    Ok(())
+}
+
+/// Takes a piece, plays each line that is whole now, and keeps the rest in `pending`.
+pub fn take_piece<P: Player, K: Sink>(
+    alloc: Global,
+    player: &mut P,
+    pending: &mut Vec<u8>,
+    piece: &[u8],
+    sink: &mut K,
+) -> Result<(), Stop<P::Reason>>
+    requires { P.count player.old + 2 * (length pending.old.items + length piece.now) < 2 ^ 61 }
+    ensures plays { PlaysTo (P.course player.old) (spec.records_after pending.old.items piece.now) (P.course player.new) (K.taken sink.old) (K.taken sink.new) result }
+    ensures rest { OnOk result (pending.new.items ≡ spec.last_part pending.old.items piece.now) }
+    ensures counted { OnOk result (P.count player.new + 2 * length pending.new.items ≤ P.count player.old + 2 * (length pending.old.items + length piece.now)) }
+    ensures cause { HasCauseAt Stop.WriteFault (K.faults sink.old) (K.faults sink.new) result }
+{
+    for byte in piece {
+        take_byte(alloc, player, pending, *byte, sink)?;
+    }
+    Ok(())
+}
