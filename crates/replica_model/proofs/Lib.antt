@@ -1,0 +1,4 @@
+pub mod Paths
+pub mod Greatest
+pub mod Bodies
+mod Worked

@@ -1,0 +1,47 @@
+-- The record table of a path: a fold over its entries, and what each place replies.
+use Rattle.std.specs.Prelude.{◌≡◌, ℕ, map, Option, Some, None, Result, Ok, Err, All}
+use Rattle.svr_base.specs.declared.ids.ClientId.{ClientId}
+use Rattle.svr_base.specs.declared.entry.Body.{Body}
+use Rattle.svr_base.specs.declared.entry.Body.TheVariants.{Noop, Ask, Members}
+use Rattle.svr_base.specs.declared.message.Request.{Request}
+use Rattle.svr_base.specs.declared.message.Reply.{Reply}
+use Rattle.client_msgs.specs.declared.fault.RequestFault.{RequestFault}
+use Rattle.client_msgs.specs.Reading.{request_of}
+use Rattle.client_msgs.specs.Canonical.{canonical_request}
+use Rattle.client_msgs.specs.Sizes.{IsValid}
+use Rattle.record_table.specs.Table.{RecordTable}
+use Rattle.record_table.specs.Places.{ClientAsk, Places, fold_places, reply_at}
+use Rattle.replica_model.specs.Path.{Path}
+
+-- a client's ask, where its bytes are a request
+abbrev pub ask_of : ClientId → ℕ → Result Request RequestFault → Option ClientAsk
+ask_of client number (Ok request) = Some (record { client = client; number = number; request = request })
+ask_of client number (Err fault) = None
+
+-- an entry as a place that the table reads: a Noop and a Members entry change nothing
+abbrev pub place_of : Body → Option ClientAsk
+place_of Noop = None
+place_of (Ask client number request) = ask_of client number (request_of request)
+place_of (Members margin voters) = None
+
+-- the places of a path
+abbrev pub places_of : Path → Places
+places_of p = map (λ e. place_of e.body) p
+
+-- the table of a path: from the empty table of the limit, each Ask applied in order
+abbrev pub fold_of : ℕ → Path → RecordTable
+fold_of limit p = fold_places limit (places_of p)
+
+-- the reply that place i of a path gives, where it is an Ask. Places count from 1
+abbrev pub reply_of : ℕ → Path → ℕ → Option Reply
+reply_of limit p i = reply_at limit (places_of p) i
+
+-- the request of an Ask is the canonical bytes of a valid request
+abbrev pub IsCanonical : Body → Type 0
+IsCanonical Noop = Unit {0}
+IsCanonical (Ask client number request) = (r : Request) × (IsValid r × (request ≡ canonical_request r))
+IsCanonical (Members margin voters) = Unit {0}
+
+-- the same of each entry
+abbrev pub AllCanonical : Path → Type 0
+AllCanonical p = All (λ e. IsCanonical e.body) p

@@ -1,0 +1,55 @@
+//! One replica as a definition: its whole log, its marks, and what it does with each input.
+//!
+//! The definitions stand in `specs/`. Here are only the numbers and the plain data that code shares with them.
+#![tactic(auto)]
+
+ghost use Rattle.replica_model.specs.Laws.{ChainFollows, ConfFollows, GreatestIsGreatest, FoldFollows, BytesTellBodies};
+
+/// The greatest index and the greatest term.
+pub const TOP: u64 = 4_611_686_018_427_387_904;
+/// The entries above the committed index at which a leader is busy.
+pub const MAX_OPEN: u64 = 1_024;
+/// The entries of one append.
+pub const MAX_ENTRIES: u64 = 16;
+/// The entries below the committed index whose hashes are kept.
+pub const KEPT_BELOW: u64 = 4_096;
+/// The learners of one leader.
+pub const MAX_LEARNERS: u32 = 31;
+/// The rows of one part of a table.
+pub const ROWS_PER_PART: u32 = 32;
+
+/// What a leader knows of one peer.
+#[derive(Clone, Copy, Debug, PartialEq, Eq)]
+pub struct Progress {
+    /// The index of the next entry to send.
+    pub next: u64,
+    /// Up to here the peer has accepted the leader's log.
+    pub mark: u64,
+    /// Up to here the peer has promised it.
+    pub promised: u64,
+}
+
+/// The law that the hash of a path and one more entry is the link of that entry to the path's hash.
+pub fn chain_follows()
+    ensures { ChainFollows }
+{}
+
+/// The law that the configuration of a path is that of its last Members entry, with that entry's index.
+pub fn conf_follows()
+    ensures { ConfFollows }
+{}
+
+/// The law that the greatest index is the greatest.
+pub fn greatest_is_greatest()
+    ensures { GreatestIsGreatest }
+{}
+
+/// The law that the table of a path and one more entry is the path's table with that entry applied.
+pub fn fold_follows()
+    ensures { FoldFollows }
+{}
+
+/// The law that different bodies have different kinds or different bytes.
+pub fn bytes_tell_bodies()
+    ensures { BytesTellBodies }
+{}
