@@ -1,0 +1,9 @@
+pub mod Enclave
+pub mod Field
+pub mod Group
+pub mod Happens
+pub mod Run
+pub mod Log
+pub mod Laws
+pub mod Halts
+pub mod Reports

@@ -1,0 +1,4 @@
+pub mod Computing
+pub mod Enough
+pub mod Premises
+pub mod Tests

@@ -1,0 +1,7 @@
+use Rattle.std.proofs.Common.{refl}
+use Rattle.model_rows.proofs.Computing.{computing}
+use Rattle.model_rows.proofs.sessions.own_contents.Goals as goal
+
+pub returns : goal.returns
+unfolding computing
+returns c = refl

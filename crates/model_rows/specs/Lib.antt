@@ -1,0 +1,9 @@
+pub mod Answered
+pub mod Audits
+pub mod Broken
+pub mod Faults
+pub mod Plays
+pub mod Rows
+pub mod Shown
+pub mod Toy
+pub mod ToySession
