@@ -1,0 +1,5 @@
+use Rattle.agreement.proofs.Promised.{agree_each}
+use Rattle.agreement.proofs.promised_paths_agree.Goals as goal
+
+pub returns : goal.returns
+returns g c first rolled keeps p q = agree_each first rolled g.H.History.Ever keeps p q

@@ -1,0 +1,5 @@
+use Rattle.log_laws.proofs.Kept.{one_log_of}
+use Rattle.log_laws.proofs.one_log.Goals as goal
+
+pub returns : goal.returns
+returns c link events = one_log_of link events
