@@ -1,0 +1,6 @@
+pub mod Numbers
+pub mod Form
+pub mod Trace
+pub mod Worlds
+pub mod Run
+pub mod Openings

@@ -1,0 +1,11 @@
+-- Without any record and without the closing lines nothing is written, and nothing stops.
+use Rattle.std.specs.Prelude.{◌≡◌, refl, List, [], Option, None, false}
+use Rattle.svr2_run.specs.Trace.{World, course_from, in_form_from, text_from}
+
+pub nothing_from : (w : World) → (course_from w).text false [] ≡ []
+unfolding text_from
+nothing_from w = refl
+
+pub unstopped_from : (w : World) → (course_from w).reason [] ≡ None
+unfolding in_form_from
+unstopped_from w = refl
