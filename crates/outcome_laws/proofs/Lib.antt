@@ -1,0 +1,9 @@
+pub mod Places
+pub mod Tickets
+pub mod Raised
+pub mod Rules
+pub mod Stepped
+pub mod Recorded
+pub mod Moved
+pub mod Events
+pub mod Holding

@@ -1,0 +1,101 @@
+-- What every state keeps of its tickets and of the limit by which it reads its path, and what a call tells of outcomes.
+use Rattle.std.proofs.Common.{◌≡◌, ℕ, ◌<◌, ◌≤◌, Bool, true, Some, List, [], ◌∷◌}
+use Rattle.std.specs.Prelude.{filter}
+use Rattle.std.specs.List.{AllByRecursion}
+use Rattle.std.proofs.lemmas.Bool.{cond_both}
+use Rattle.svr_base.specs.declared.entry.Body.TheVariants.{Ask}
+use Rattle.svr_base.specs.declared.ids.ClientId.{ClientId}
+use Rattle.svr_base.specs.declared.message.Answer.{Answer}
+use Rattle.svr_base.specs.declared.message.Answer.TheVariants.{Outcome}
+use Rattle.svr_base.specs.declared.message.Reply.{Reply}
+use Rattle.svr_base.specs.declared.peer.PeerMsg.{PeerMsg}
+use Rattle.svr_base.specs.declared.peer.PeerMsg.TheVariants.{AskVote, Vote, Append, Accepted, Rejected, Part, PartTaken}
+use Rattle.client_msgs.specs.Canonical.{canonical_request}
+use Rattle.replica_model.specs.Path.{Path, entry_at}
+use Rattle.replica_model.specs.Folds.{reply_of}
+use Rattle.replica_model.specs.Message.{Message}
+use Rattle.replica_model.specs.Replica.{Ticket, Named, Role, Learner, Follower, Candidate, Leader, Replica}
+use Rattle.replica_model.specs.Call.{Call}
+use Rattle.group_model.specs.Log.{AnyByRecursion, IsFrontOf}
+use Rattle.outcome_laws.proofs.Places.{entry_of_front}
+
+-- at a ticket's index the path has the Ask of its client and number with its request's canonical bytes
+abbrev pub IsAsked : Path → Ticket → Type 0
+IsAsked path t = (term : ℕ) × (entry_at path t.index ≡ Some (record { term = term; body = Ask t.client t.number (canonical_request t.request) }))
+
+abbrev pub IsAmong : List Ticket → Ticket → Type 0
+IsAmong all t = AnyByRecursion (λ u. u ≡ t) all
+
+-- a ticket is one of these, and the path has the Ask of each of them that has its index
+pub record Stands (all : List Ticket) (path : Path) (t : Ticket) : Type 0 where
+  pub among : IsAmong all t
+  pub each : (u : Ticket) → IsAmong all u → u.index ≡ t.index → IsAsked path u
+
+-- a learner has no ticket, and once it took a part it knows the run's limit; who holds a log reads it by that limit
+abbrev pub Reads : ℕ → ℕ → List Ticket → Role → Type 0
+Reads run limit tickets (Learner taking) = (tickets ≡ []) × (0 < taking.next → taking.names.limit ≡ run)
+Reads run limit tickets Follower = limit ≡ run
+Reads run limit tickets (Candidate votes) = limit ≡ run
+Reads run limit tickets (Leader l) = limit ≡ run
+
+-- a part names the run's limit
+abbrev pub NamesLimit : ℕ → Named → PeerMsg → Type 0
+NamesLimit run names (AskVote term last_index last_term) = Unit {0}
+NamesLimit run names (Vote term granted) = Unit {0}
+NamesLimit run names (Append term prev entries promise commit) = Unit {0}
+NamesLimit run names (Accepted term end promised) = Unit {0}
+NamesLimit run names (Rejected term asked hint) = Unit {0}
+NamesLimit run names (Part term part) = names.limit ≡ run
+NamesLimit run names (PartTaken term point next) = Unit {0}
+
+abbrev pub LimitTold : ℕ → Message → Type 0
+LimitTold run m = NamesLimit run m.names m.msg
+
+abbrev pub LimitsTold : ℕ → List (ℕ × Message) → Type 0
+LimitsTold run sent = AllByRecursion (λ m. LimitTold run m.1) sent
+
+-- an outcome is the reply of the path at the index of a ticket, which is committed
+pub record Replied (all : List Ticket) (run committed : ℕ) (path : Path) (client : ClientId) (number index : ℕ) (reply : Reply) : Type 0 where
+  pub ticket : Ticket
+  pub stands : Stands all path ticket
+  pub index_is : ticket.index ≡ index
+  pub client_is : ticket.client ≡ client
+  pub number_is : ticket.number ≡ number
+  pub below : index ≤ committed
+  pub reply_is : reply_of run path index ≡ Some reply
+
+abbrev pub IsFair : List Ticket → ℕ → ℕ → Path → ClientId × ℕ × Answer → Type 0
+IsFair all run committed path (client, number, Outcome index reply) = Replied all run committed path client number index reply
+IsFair all run committed path (client, number, other) = Unit {0}
+
+-- what holds of a call so far, of which these tickets are all that it found and may have made
+pub record FairParts (all : List Ticket) (run limit committed : ℕ) (path : Path) (role : Role) (tickets : List Ticket) (answers : List (ClientId × ℕ × Answer)) (sent : List (ℕ × Message)) : Type 0 where
+  pub reads : Reads run limit tickets role
+  pub stand : AllByRecursion (Stands all path) tickets
+  pub answered : AllByRecursion (IsFair all run committed path) answers
+  pub told : LimitsTold run sent
+
+abbrev pub FairCall : List Ticket → ℕ → Call → Type 0
+FairCall all run c = FairParts all run c.state.limit c.state.committed c.state.path c.state.role c.state.tickets c.batch.answers c.sent
+
+-- a state in a call that has told nothing yet
+abbrev pub FairState : List Ticket → ℕ → Replica → Type 0
+FairState all run s = FairParts all run s.limit s.committed s.path s.role s.tickets [] []
+
+pub reads_fewer : (run limit : ℕ) (tickets fewer : List Ticket) (role : Role) → (tickets ≡ [] → fewer ≡ []) → Reads run limit tickets role → Reads run limit fewer role
+reads_fewer run limit tickets fewer (Learner taking) none reads = (none reads.0, reads.1)
+reads_fewer run limit tickets fewer Follower none reads = reads
+reads_fewer run limit tickets fewer (Candidate votes) none reads = reads
+reads_fewer run limit tickets fewer (Leader l) none reads = reads
+
+pub stands_longer : (all : List Ticket) (p w : Path) → IsFrontOf p w → (t : Ticket) → Stands all p t → Stands all w t
+stands_longer all p w pre t g = record {
+  among = g.among;
+  each = λ u among same. let old = g.each u among same in (old.0, entry_of_front p w u.index _ pre old.1);
+}
+
+pub all_filter : {A : Type 0} (P Q : A → Type 0) (test : A → Bool) (xs : List A) → ((x : A) → test x ≡ true → P x → Q x) → AllByRecursion P xs → AllByRecursion Q (filter test xs)
+all_filter P Q test [] more h = tt
+all_filter P Q test (x ∷ xs) more h = cond_both (test x) (x ∷ filter test xs) (filter test xs) (AllByRecursion Q)
+    (λ b. (more x b h.0, all_filter P Q test xs more h.1))
+    (λ b. all_filter P Q test xs more h.1)
