@@ -14,7 +14,7 @@ use Rattle.svr_base.specs.declared.message.Response.TheVariants.{Restore as Rest
 use Rattle.svr_base.specs.declared.message.Reply.{Reply}
 use Rattle.svr_base.specs.declared.message.Reply.TheVariants.{Applied, Stale, TableFull}
 use Rattle.record_table.specs.declared.status.TheConstants.{OK, MISSING, ERROR}
-use Rattle.record_table.specs.Rules.{act, guess, guessed_wrong}
+use Rattle.record_table.specs.Rules.{act, after_guess, after_wrong_guess}
 use Rattle.record_table.specs.Valid.{IsValid}
 use Rattle.record_table.specs.Places.{ClientAsk, Places, fold_places, ask_at, reply_at, is_ask_of, is_mismatch, IsApplied, ActsAs, wrong_guesses}
 use Rattle.record_table.specs.Laws.{AreValid, NoBackup, NoDelete, Earned, GuessesEnd, DataIsEarned, record_of}
@@ -134,7 +134,7 @@ record Gave (kept : Option Kept) (request : Request) (secret : List ℕ) (left :
 
 module _ (pin : Hash) (kept : Kept) (secret : List ℕ) (left : ℕ) where
   by_pin : (b : Bool) → bytes_eq kept.pin.0 pin.0 ≡ b → kept.exposed ≡ true
-      → (cond {A = Option Kept × Response} b (Some kept, Restored OK kept.secret kept.left) (guessed_wrong kept)).1 ≡ Restored OK secret left
+      → (cond {A = Option Kept × Response} b (Some kept, Restored OK kept.secret kept.left) (after_wrong_guess kept)).1 ≡ Restored OK secret left
       → Gave (Some kept) (Restore pin) secret left
   by_pin true test shown e = record {
     pin = pin;
@@ -149,7 +149,7 @@ module _ (pin : Hash) (kept : Kept) (secret : List ℕ) (left : ℕ) where
   by_pin false test shown e = cc
 
   by_exposed : (b : Bool) → kept.exposed ≡ b
-      → (cond {A = Option Kept × Response} b (guess pin kept) (Some kept, Restored MISSING [] 0)).1 ≡ Restored OK secret left
+      → (cond {A = Option Kept × Response} b (after_guess pin kept) (Some kept, Restored MISSING [] 0)).1 ≡ Restored OK secret left
       → Gave (Some kept) (Restore pin) secret left
   by_exposed true shown e = by_pin (bytes_eq kept.pin.0 pin.0) refl shown e
   by_exposed false shown e = cc

@@ -12,7 +12,7 @@ use Rattle.svr_base.specs.declared.message.Response.TheVariants.{Restore as Rest
 use Rattle.svr_base.specs.declared.message.Reply.{Reply}
 use Rattle.svr_base.specs.declared.message.Reply.TheVariants.{Applied}
 use Rattle.record_table.specs.declared.status.TheConstants.{OK, MISSING, PIN_MISMATCH, ERROR}
-use Rattle.record_table.specs.Rules.{act, guess, guessed_wrong}
+use Rattle.record_table.specs.Rules.{act, after_guess, after_wrong_guess}
 use Rattle.record_table.specs.Places.{is_mismatch}
 
 -- of a backup of these contents, after so many wrong guesses: what its record is
@@ -61,11 +61,11 @@ module _ (secret : List ℕ) (pin : Hash) (tries wrong : ℕ) (Shown Undeleted S
       undeleted = still stood.undeleted;
     }
 
-    guessed : (p : Hash) (b : Bool) → Becomes (cond b (Some kept, Restored OK kept.secret kept.left) (guessed_wrong kept))
+    guessed : (p : Hash) (b : Bool) → Becomes (cond b (Some kept, Restored OK kept.secret kept.left) (after_wrong_guess kept))
     guessed p true = unchanged (Restored OK kept.secret kept.left) refl
     guessed p false = one_less (kept.left - 1 == 0) refl
 
-    restored : (p : Hash) (b : Bool) → Becomes (cond b (guess p kept) (Some kept, Restored MISSING [] 0))
+    restored : (p : Hash) (b : Bool) → Becomes (cond b (after_guess p kept) (Some kept, Restored MISSING [] 0))
     restored p true = guessed p (bytes_eq kept.pin.0 p.0)
     restored p false = unchanged (Restored MISSING [] 0) refl
 

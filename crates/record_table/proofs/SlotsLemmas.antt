@@ -13,7 +13,7 @@ use Rattle.record_table.specs.declared.store.TheConstants.{MOST_ROWS}
 use Rattle.record_table.specs.Clients.{client_cmp}
 use Rattle.record_table.specs.Table.{row_of, put_row, kept_in, IsRising}
 use Rattle.record_table.specs.declared.change.Change.{Change}
-use Rattle.record_table.specs.Changes.{changed}
+use Rattle.record_table.specs.Changes.{kept_after}
 use Rattle.record_table.specs.Placed.{IsRowAt, IsGap}
 use Rattle.record_table.specs.Slots.{no_row, rows_in, IsSorted}
 use Rattle.record_table.proofs.Clients.{client_cmp-self}
@@ -185,9 +185,9 @@ slice_get-index (r ∷ rows) (suc at) d h = slice_get-index rows at d (omega ari
 -- or the row of the place is changed in its slot
 pub changes : (order : List ℕ) (slots rows : List Row) (client : ClientId) (last : ℕ) (change : Change) (at slot : ℕ) (old new : Row) → IsSorted order slots
     → rows_in order slots ≡ rows → IsRowAt rows client at → slice_index_or order at slot ≡ slot → old ≡ slice_index_or slots slot old
-    → new ≡ record old { last = last; kept = changed change old.kept }
+    → new ≡ record old { last = last; kept = kept_after change old.kept }
     → IsSorted order (slice_set slots slot new)
-    × (rows_in order (slice_set slots slot new) ≡ put_row rows (record { client = client; last = last; kept = changed change (kept_in (row_of rows client)) }))
+    × (rows_in order (slice_set slots slot new) ≡ put_row rows (record { client = client; last = last; kept = kept_after change (kept_in (row_of rows client)) }))
 changes order slots rows client last change at slot old new sorted view here is old_is new_is =
     let low : at < length rows = place_below rows client at here in
     let many = ap length view in
@@ -200,8 +200,8 @@ changes order slots rows client last change at slot old new sorted view here is 
     let mine : old.client ≡ client = subst (λ o. IsSomeAnd o (λ row. row.client ≡ client)) found here in
     let rising : IsRising rows = subst IsRising view sorted.rising in
     let row_is : row_of rows client ≡ Some old = subst (λ k. row_of rows k ≡ Some old) mine (row_of-at rows at old rising found) in
-    let same : new ≡ record { client = client; last = last; kept = changed change (kept_in (row_of rows client)) } =
-    new_is ∙ (λ i. record { client = mine i; last = last; kept = changed change (kept_in (sym row_is i)) }) in
+    let same : new ≡ record { client = client; last = last; kept = kept_after change (kept_in (row_of rows client)) } =
+    new_is ∙ (λ i. record { client = mine i; last = last; kept = kept_after change (kept_in (sym row_is i)) }) in
     let done = writes order slots rows new at slot sorted view (subst (λ k. IsRowAt rows k at) (sym (ap (λ r. r.client) same)) here) is in
     (done.0, done.1 ∙ ap (put_row rows) same)
 

@@ -16,11 +16,11 @@ use Rattle.svr_base.specs.declared.message.Response.{Response}
 use Rattle.svr_base.specs.declared.message.Response.TheVariants.{Restore as Restored, Expose as Exposed}
 use Rattle.record_table.specs.declared.status.TheConstants.{OK, MISSING, ERROR}
 use Rattle.record_table.specs.Clients.{client_cmp, client_eq}
-use Rattle.record_table.specs.Table.{RecordTable, row_of, kept_in, put_row, IsRising, added}
+use Rattle.record_table.specs.Table.{RecordTable, row_of, kept_in, put_row, IsRising, with_row}
 use Rattle.record_table.specs.declared.change.Change.{Change}
 use Rattle.record_table.specs.declared.change.Change.TheVariants.{Keep}
-use Rattle.record_table.specs.Changes.{changed, IsOutcome}
-use Rattle.record_table.specs.Rules.{act, guess, guessed_wrong}
+use Rattle.record_table.specs.Changes.{kept_after, IsOutcome}
+use Rattle.record_table.specs.Rules.{act, after_guess, after_wrong_guess}
 use Rattle.record_table.specs.Valid.{IsValid, IsValidRecord, IsValidRow, IsSound}
 use Rattle.record_table.specs.Placed.{IsRowAt}
 use Rattle.record_table.proofs.Rows.{row_of-client}
@@ -37,12 +37,12 @@ one_less kept true e valid = tt
 one_less kept false e valid = let some = eqb-false (kept.left - 1) 0 e in let most = valid.1.1 in (valid.0, (omega arith, omega arith))
 
 guessed : (kept : Kept) (b : Bool) → IsValidRecord kept
-    → IsValidKept (cond {A = Option Kept × Response} b (Some kept, Restored OK kept.secret kept.left) (guessed_wrong kept)).0
+    → IsValidKept (cond {A = Option Kept × Response} b (Some kept, Restored OK kept.secret kept.left) (after_wrong_guess kept)).0
 guessed kept true valid = valid
 guessed kept false valid = one_less kept (kept.left - 1 == 0) refl valid
 
 restored : (pin : Hash) (kept : Kept) (b : Bool) → IsValidRecord kept
-    → IsValidKept (cond {A = Option Kept × Response} b (guess pin kept) (Some kept, Restored MISSING [] 0)).0
+    → IsValidKept (cond {A = Option Kept × Response} b (after_guess pin kept) (Some kept, Restored MISSING [] 0)).0
 restored pin kept true valid = guessed kept (bytes_eq kept.pin.0 pin.0) valid
 restored pin kept false valid = valid
 
@@ -109,7 +109,7 @@ length_put_known rows row old rising e =
 
 -- a valid row is put where its client is known or there is room
 pub sound_put : (table : RecordTable) (row : Row) → IsSound table → IsValidRow row → IsSome (row_of table.rows row.client) ⊎ (length table.rows < table.limit)
-    → IsSound (added table row)
+    → IsSound (with_row table row)
 sound_put table row sound valid room = record {
   limit_least = sound.limit_least;
   limit_most = sound.limit_most;
@@ -128,7 +128,7 @@ sound_put table row sound valid room = record {
 
 -- the row of a client that is known, after a valid request has acted
 pub sound_act : (table : RecordTable) (client : ClientId) (number : ℕ) (request : Request) (kept : Option Kept) (row : Row) → IsSound table → IsValid request
-    → row_of table.rows client ≡ Some row → kept ≡ (act request row.kept).0 → IsSound (added table (record { client = client; last = number; kept = kept }))
+    → row_of table.rows client ≡ Some row → kept ≡ (act request row.kept).0 → IsSound (with_row table (record { client = client; last = number; kept = kept }))
 sound_act table client number request kept row sound sizes known is =
     sound_put table (record { client = client; last = number; kept = kept }) sound
     (subst IsValidKept (sym is) (act_valid request row.kept sizes ((found table.rows client row known).valid sound.valid)))
@@ -137,12 +137,12 @@ sound_act table client number request kept row sound sizes known is =
 -- the rows after a valid request of a known client has acted
 pub sound_change : (table : RecordTable) (client : ClientId) (number : ℕ) (request : Request) (change : Change) (response : Response) (row : Row) (rows : List Row)
     → IsSound table → IsValid request → row_of table.rows client ≡ Some row → IsOutcome request row.kept (change, response)
-    → rows ≡ put_row table.rows (record { client = client; last = number; kept = changed change (kept_in (row_of table.rows client)) })
+    → rows ≡ put_row table.rows (record { client = client; last = number; kept = kept_after change (kept_in (row_of table.rows client)) })
     → IsSound (record table { rows = rows })
 sound_change table client number request change response row rows sound sizes known answered is =
     subst (λ r. IsSound (record table { rows = r })) (sym is)
-    (sound_act table client number request (changed change (kept_in (row_of table.rows client))) row sound sizes known
-    (ap (λ r. changed change (kept_in r)) known ∙ ap (λ done. done.0) answered))
+    (sound_act table client number request (kept_after change (kept_in (row_of table.rows client))) row sound sizes known
+    (ap (λ r. kept_after change (kept_in r)) known ∙ ap (λ done. done.0) answered))
 
 -- only a backup leaves a record where there was none
 pub backs_up : (request : Request) (kept : Kept) (response : Response) → (Some kept, response) ≡ act request None

@@ -13,7 +13,7 @@ use Rattle.svr_base.specs.declared.message.Reply.{Reply}
 use Rattle.svr_base.specs.declared.message.Reply.TheVariants.{Applied, Stale, TableFull}
 use Rattle.record_table.specs.Clients.{client_eq}
 use Rattle.record_table.specs.Table.{RecordTable, row_of, put_row, kept_in}
-use Rattle.record_table.specs.Rules.{act, acted, apply, apply_by}
+use Rattle.record_table.specs.Rules.{act, after_acting, apply, apply_by}
 use Rattle.record_table.specs.Places.{ClientAsk, Places, apply_place, fold_places, ask_at, reply_at, is_ask_of, IsApplied}
 use Rattle.record_table.proofs.Clients.{client_eq-true}
 use Rattle.record_table.proofs.Rows.{row_of-put_same, row_of-put_other}
@@ -42,10 +42,10 @@ module _ (table : RecordTable) (client : ClientId) (number : ℕ) (request : Req
   abbrev Leaves : RecordTable × Reply → Type 0
   Leaves after = (other : ClientId) → client_eq client other ≡ false → row_of after.0.rows other ≡ row_of table.rows other
 
-  leaves_acted : (done : Option Kept × Response) → Leaves (acted table client number done)
+  leaves_acted : (done : Option Kept × Response) → Leaves (after_acting table client number done)
   leaves_acted done other e = row_of-put_other table.rows (record { client = client; last = number; kept = done.0 }) other e
 
-  leaves_either : (refusal : Reply) (done : Option Kept × Response) (b : Bool) → Leaves (cond b (table, refusal) (acted table client number done))
+  leaves_either : (refusal : Reply) (done : Option Kept × Response) (b : Bool) → Leaves (cond b (table, refusal) (after_acting table client number done))
   leaves_either refusal done true other e = refl
   leaves_either refusal done false other e = leaves_acted done other e
 
@@ -55,7 +55,7 @@ module _ (table : RecordTable) (client : ClientId) (number : ℕ) (request : Req
       Turn client (row_of table.rows client) (row_of after.0.rows client) (Some (record { client = client; number = number; request = request })) (Some after.1)
 
   turns_acted : (kept : Option Kept) → kept_in (row_of table.rows client) ≡ kept
-      → ((row : Row) → row_of table.rows client ≡ Some row → row.last < number) → Turns (acted table client number (act request kept))
+      → ((row : Row) → row_of table.rows client ≡ Some row → row.last < number) → Turns (after_acting table client number (act request kept))
   turns_acted kept e above =
       acts number request refl above
       (subst (λ k. row_of (put_row table.rows (record { client = client; last = number; kept = (act request kept).0 })) client
@@ -64,13 +64,13 @@ module _ (table : RecordTable) (client : ClientId) (number : ℕ) (request : Req
       (ap (λ k. Some (Applied (act request k).1)) (sym e))
 
   turns_known : (row : Row) (b : Bool) → nat_le number row.last ≡ b → row_of table.rows client ≡ Some row
-      → Turns (cond b (table, Stale row.last) (acted table client number (act request row.kept)))
+      → Turns (cond b (table, Stale row.last) (after_acting table client number (act request row.kept)))
   turns_known row true test e = refused refl (λ h. h)
   turns_known row false test e =
       turns_acted row.kept (ap kept_in e) (λ s f. let same : s ≡ row = cc in subst (λ r. r.last < number) (sym same) (leb-false number row.last test))
 
   turns_backup : (b : Bool) → row_of table.rows client ≡ None
-      → Turns (cond b (table, TableFull table.limit) (acted table client number (act request None)))
+      → Turns (cond b (table, TableFull table.limit) (after_acting table client number (act request None)))
   turns_backup true e = refused refl (λ h. h)
   turns_backup false e = turns_acted None (ap kept_in e) (λ s f. cc)
 

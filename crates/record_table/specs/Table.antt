@@ -39,5 +39,5 @@ abbrev pub can_add : RecordTable → Row → Bool
 can_add table row = is_none (row_of table.rows row.client) && nat_lt (length table.rows) table.limit
 
 -- the table with the row added
-abbrev pub added : RecordTable → Row → RecordTable
-added table row = record table { rows = put_row table.rows row }
+abbrev pub with_row : RecordTable → Row → RecordTable
+with_row table row = record table { rows = put_row table.rows row }

@@ -1,6 +1,6 @@
 //! What a request that acts makes of a client's row.
 ghost use Rattle.std.specs.Prelude.{◌≡◌};
-ghost use Rattle.record_table.specs.Changes.{changed};
+ghost use Rattle.record_table.specs.Changes.{kept_after};
 
 use svr_base::{Kept, Row};
 
@@ -21,7 +21,7 @@ pub enum Change {
 
 /// Changes the row in its place: its last number and its record. No bytes are copied.
 pub fn change_row(row: &mut Row, last: u64, change: Change)
-    ensures { row.new ≡ record row.old { last = last; kept = changed change row.old.kept } }
+    ensures { row.new ≡ record row.old { last = last; kept = kept_after change row.old.kept } }
 {
     row.last = last;
     match change {

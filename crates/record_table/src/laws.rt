@@ -1,20 +1,25 @@
-//! What holds of every list of asks, whatever the limit. Each law is the contract of a function that does nothing.
+//! What holds of every list of asks, whatever the limit. Each law is the contract of a function
+//! that does nothing.
 
 ghost use Rattle.std.specs.Prelude.{◌≡◌, ℕ, ◌+◌, ◌≤◌, ◌∷◌, [], ◌++◌, length, Option, Some};
 ghost use Rattle.record_table.specs.Places.{ClientAsk, Places, apply_place, fold_places, reply_at};
 ghost use Rattle.record_table.specs.Rules.{apply};
 ghost use Rattle.record_table.specs.Laws.{AreValid, NumbersRise, GuessesEnd, DataIsEarned};
 
-/// The table after one place more is the table before it, with that place applied; and an ask there is given the reply
-/// of the table before it.
+/// The table after one place more is the table before it, with that place applied; and an ask there
+/// is given the reply of the table before it.
 pub fn fold_grows()
-    ensures table { (limit : ℕ) (places : Places) (place : Option ClientAsk) → fold_places limit (places ++ place ∷ []) ≡ apply_place (fold_places limit places) place }
-    ensures reply { (limit : ℕ) (places : Places) (ask : ClientAsk) → reply_at limit (places ++ Some ask ∷ []) (length places + 1) ≡ Some (apply (fold_places limit places) ask.client ask.number ask.request).1 }
+    ensures table { (limit : ℕ) (places : Places) (place : Option ClientAsk)
+        → fold_places limit (places ++ place ∷ []) ≡ apply_place (fold_places limit places) place }
+    ensures reply { (limit : ℕ) (places : Places) (ask : ClientAsk)
+        → reply_at limit (places ++ Some ask ∷ []) (length places + 1)
+        ≡ Some (apply (fold_places limit places) ask.client ask.number ask.request).1 }
 {}
 
 /// What a place replies stays so, whatever places follow.
 pub fn replies_stay()
-    ensures { (limit : ℕ) (places more : Places) (i : ℕ) → i ≤ length places → reply_at limit (places ++ more) i ≡ reply_at limit places i }
+    ensures { (limit : ℕ) (places more : Places) (i : ℕ) → i ≤ length places
+        → reply_at limit (places ++ more) i ≡ reply_at limit places i }
 {}
 
 /// Of two places of one client that act, the later has the higher number, once the client is known.
@@ -27,7 +32,8 @@ pub fn guesses_end()
     ensures { (limit : ℕ) (places : Places) → AreValid places → GuessesEnd limit places }
 {}
 
-/// A secret leaves only after its backup and its expose, for the right PIN, with the tries that remain.
+/// A secret leaves only after its backup and its expose, for the right PIN, with the tries that
+/// remain.
 pub fn data_is_earned()
     ensures { (limit : ℕ) (places : Places) → AreValid places → DataIsEarned limit places }
 {}

@@ -1,4 +1,5 @@
-//! The record table: a limit and a finite map from clients to rows, and the rules by which it answers.
+//! The record table: a limit and a finite map from clients to rows, and the rules by which it
+//! answers.
 #![tactic(auto)]
 
 mod change;

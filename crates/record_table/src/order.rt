@@ -6,8 +6,8 @@ ghost use Rattle.record_table.specs.Clients.{client_cmp};
 use std::cmp::Ordering;
 use svr_base::ClientId;
 
-/// The order of two clients, by their bytes from the first on. It is that of the numbers which the bytes spell, and
-/// two numbers are compared at once.
+/// The order of two clients, by their bytes from the first on. It is that of the numbers which the
+/// bytes spell, and two numbers are compared at once.
 pub fn compare(a: &ClientId, b: &ClientId) -> Ordering
     ensures { result ≡ client_cmp a.now b.now }
 {

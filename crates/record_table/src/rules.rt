@@ -1,5 +1,6 @@
 //! The record rules: how a request that acts changes its client's record, and what is answered.
-ghost use Rattle.std.specs.Prelude.{◌≡◌, false, [], Some, IfOk, option_copied};
+ghost use Rattle.std.specs.Prelude.{◌≡◌, [], Option, Some, IfOk, option_copied};
+ghost use Rattle.svr_base.specs.declared.row.Kept.{Kept as KeptRecord};
 ghost use Rattle.record_table.specs.Changes.{IsOutcome};
 
 use crate::change::Change;
@@ -33,7 +34,7 @@ fn back_up(
     pin: Hash,
     tries: u32,
 ) -> Result<(Change, Response), Memory>
-    ensures { IfOk result (λ done. done ≡ (Change.Keep (record { secret = secret.now; pin = pin; left = tries; exposed = false }), Response.Backup OK)) }
+    ensures { IfOk result (λ done. (kept : Option KeptRecord) → IsOutcome (Request.Backup secret.now pin tries) kept done) }
 {
     let kept = Kept {
         secret: secret.copy(alloc)?,

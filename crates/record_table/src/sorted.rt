@@ -11,8 +11,8 @@ use std::cmp::Ordering;
 use std::marker::Model;
 use svr_base::{ClientId, Memory, Row, TryCopy};
 
-/// Rows in slots, and the list of the slots in rising client order. A new row moves numbers of slots alone, two bytes
-/// each, and no row. Contracts see the list of the rows in that order.
+/// Rows in slots, and the list of the slots in rising client order. A new row moves numbers of
+/// slots alone, two bytes each, and no row. Contracts see the list of the rows in that order.
 #[derive(Debug, Drop)]
 pub struct SortedRows {
     order: Vec<u16>,

@@ -11,8 +11,8 @@ pub const MOST_ROWS: u32 = 20_000;
 /// A store of rows. Its content is a list of rows in strictly rising client order.
 pub trait RowStore: Sized {
     ghost use Rattle.svr_base.specs.declared.row.Row.{Row};
-    ghost use Rattle.record_table.specs.Table.{row_of, put_row, kept_in, IsRising};
-    ghost use Rattle.record_table.specs.Changes.{changed};
+    ghost use Rattle.record_table.specs.Table.{row_of, put_row, IsRising};
+    ghost use Rattle.record_table.specs.Changes.{changed_row};
 
     /// The rows.
     ghost content: { Self → List Row };
@@ -34,17 +34,19 @@ pub trait RowStore: Sized {
         ensures count { result ≡ length (content self.now) }
         ensures rising { IsRising (content self.now) };
 
-    /// Puts the row in the place of its client's, or adds it at its place. After `Memory` nothing has changed.
+    /// Puts the row in the place of its client's, or adds it at its place. After `Memory` nothing
+    /// has changed.
     fn put(&mut self, row: Row) -> Result<(), Memory>
         requires { (length (content self.old) < MOST_ROWS) ⊎ IsSome (row_of (content self.old) row.client) }
         ensures ok { OnOk result (content self.new ≡ put_row (content self.old) row) }
         ensures err { OnErr result (content self.new ≡ content self.old) };
 
-    /// Gives the row of a known client this last number, and changes its record. A store that may write its rows in
-    /// their places copies nothing for it. After `Memory` nothing has changed.
+    /// Gives the row of a known client this last number, and changes its record. A store that may
+    /// write its rows in their places copies nothing for it. After `Memory` nothing has changed.
     fn change(&mut self, client: &ClientId, last: u64, change: Change) -> Result<(), Memory>
         requires { IsSome (row_of (content self.old) client.now) }
-        ensures ok { OnOk result (content self.new ≡ put_row (content self.old) (record { client = client.now; last = last; kept = changed change (kept_in (row_of (content self.old) client.now)) })) }
+        ensures ok { let row = changed_row (content self.old) client.now last change in
+            OnOk result (content self.new ≡ put_row (content self.old) row) }
         ensures err { OnErr result (content self.new ≡ content self.old) };
 
     /// A store of the same rows.

@@ -8,7 +8,8 @@ use std::alloc::Global;
 use std::marker::Model;
 use svr_base::{ClientId, Memory, Reply, Request, Row, Rows, TryCopy};
 
-/// A limit, and a finite map from clients to rows. Contracts see both; the rows stand in strictly rising client order.
+/// A limit, and a finite map from clients to rows. Contracts see both; the rows stand in strictly
+/// rising client order.
 #[derive(Debug, Drop)]
 pub struct TableOver<T: RowStore> {
     alloc: Global,
@@ -32,7 +33,7 @@ impl<T: RowStore> Model for TableOver<T> {
 
 impl<T: RowStore> TableOver<T> {
     ghost use Rattle.std.specs.Prelude.{◌≡◌, ◌≤◌, IsNone, length, take, drop, IfOk, OnOk, OnErr, option_copied, if◌then◌else◌};
-    ghost use Rattle.record_table.specs.Table.{empty_table, row_of, can_add, added};
+    ghost use Rattle.record_table.specs.Table.{empty_table, row_of, can_add, with_row};
     ghost use Rattle.record_table.specs.Valid.{IsValid, IsValidRow, IsSound};
     ghost use Rattle.record_table.specs.Rules.{apply, ask_unknown};
 
@@ -61,6 +62,7 @@ impl<T: RowStore> TableOver<T> {
         ensures count { result ≡ length self.now.rows }
         ensures sound { IsSound self.now }
     {
+        // A reader of a field is told what holds of every table.
         let _ = &self.limit;
         self.rows.count()
     }
@@ -72,8 +74,8 @@ impl<T: RowStore> TableOver<T> {
         self.rows.find(client)
     }
 
-    /// Applies the client's numbered request by the record rules, and gives the reply. After `Memory` the table is as
-    /// before.
+    /// Applies the client's numbered request by the record rules, and gives the reply. After
+    /// `Memory` the table is as before.
     pub fn apply(
         &mut self,
         client: &ClientId,
@@ -98,7 +100,8 @@ impl<T: RowStore> TableOver<T> {
         }
     }
 
-    /// A request of an unknown client: a backup makes it known, where there is room, and no other request changes anything.
+    /// A request of an unknown client: a backup makes it known, where there is room, and no other
+    /// request changes anything.
     fn apply_unknown(
         &mut self,
         client: &ClientId,
@@ -140,12 +143,12 @@ impl<T: RowStore> TableOver<T> {
         Ok(rows)
     }
 
-    /// Adds a row: false, and nothing is changed, exactly where the client is known or the table is full. After
-    /// `Memory` the table is as before.
+    /// Adds a row: false, and nothing is changed, exactly where the client is known or the table is
+    /// full. After `Memory` the table is as before.
     pub fn add_row(&mut self, row: Row) -> Result<bool, Memory>
         requires { IsValidRow row }
         ensures answer { IfOk result (λ done. done ≡ can_add self.old row) }
-        ensures ok { OnOk result (self.new ≡ (if can_add self.old row then added self.old row else self.old)) }
+        ensures ok { OnOk result (self.new ≡ (if can_add self.old row then with_row self.old row else self.old)) }
         ensures err { OnErr result (self.new ≡ self.old) }
     {
         if self.rows.count() >= self.limit || self.rows.find(&row.client).is_some() {
