@@ -1,9 +1,7 @@
 -- Short runs of a group, with a link that is easy to read.
 use Rattle.std.proofs.Common.{◌≡◌, ℕ, ◌+◌, ◌*◌, true, false, List, [], ◌∷◌, ◌++◌, map, length, take, replicate, refl}
-use Rattle.std.specs.Prelude.{Option, Some, None, option_map, slice_get}
+use Rattle.std.specs.Prelude.{Option, Some, None, option_map}
 use Rattle.std.specs.List.{range_with_len}
-use Rattle.svr_base.specs.declared.entry.Hash.{Hash}
-use Rattle.svr_base.specs.declared.entry.LogEntry.{LogEntry}
 use Rattle.svr_base.specs.declared.event.Event.{Event}
 use Rattle.svr_base.specs.declared.event.Event.TheVariants as event
 use Rattle.svr_base.specs.declared.ids.ClientId.{ClientId}
@@ -15,10 +13,10 @@ use Rattle.svr_base.specs.declared.message.Request.TheVariants.{Delete}
 use Rattle.replica_model.specs.Message.{Message}
 use Rattle.replica_model.specs.Path.{Path, Link}
 use Rattle.replica_model.specs.Keyed.{value_at}
-use Rattle.schedule_model.specs.Lines.{GroupRefusal, NoMessage, Lost, NotRunning, AlreadyStarted, NoSuchState, NothingInFlight, NoAnswer, NotYours}
+use Rattle.schedule_model.specs.Lines.{GroupRefusal, Lost, NotRunning, AlreadyStarted, NoSuchState, NothingInFlight, NoAnswer, NotYours}
 use Rattle.group_model.specs.Enclave.{Enclave}
 use Rattle.group_model.specs.Group.{next_message, is_within}
-use Rattle.group_model.specs.Happens.{Came, Refused, Replied, Reported, Passed, Happening, Happened, Broken, Unanswered, happens}
+use Rattle.group_model.specs.Happens.{Came, Refused, Reported, Passed, Happening, Happened, Broken, Unanswered, happens}
 use Rattle.group_model.specs.Run.{World, Enclaves, enclaves, run}
 use Rattle.group_model.specs.Log.{log_of, fronts_of, outcomes_of, Outcome}
 

@@ -1,6 +1,5 @@
 -- A replica in its enclave: with its links, and the states that its host has saved.
 use Rattle.std.specs.Prelude.{ℕ, ◌-◌, ◌==◌, not, Bool, true, false, if◌then◌else◌, List, [], ◌∷◌, ◌++◌, length, filter, slice_get, Option, Some, None}
-use Rattle.group_quorum.specs.Conf.{Conf}
 use Rattle.group_quorum.specs.Voters.{is_in}
 use Rattle.svr_base.specs.declared.batch.Refusal.{Refusal}
 use Rattle.svr_base.specs.declared.batch.Refusal.TheVariants.{NoLink, NoState, NotForMe}

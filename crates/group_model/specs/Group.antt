@@ -1,5 +1,5 @@
 -- A group: what its world keeps of the replicas that run, of all that they sent and answered, and of the clients.
-use Rattle.std.specs.Prelude.{ℕ, zero, suc, ◌+◌, ◌-◌, ◌*◌, ◌==◌, ◌&&◌, nat_le, not, max, Bool, true, false, if◌then◌else◌, List, [], ◌∷◌, ◌++◌, map, length, fold, filter, find, count_by, slice_get, bytes_eq, Option, Some, None, option_map, option_to_list, unwrap_or, is_some}
+use Rattle.std.specs.Prelude.{ℕ, zero, suc, ◌+◌, ◌*◌, ◌==◌, nat_le, not, max, Bool, false, if◌then◌else◌, List, [], ◌∷◌, ◌++◌, map, length, fold, filter, find, count_by, slice_get, bytes_eq, Option, None, option_map, option_to_list, unwrap_or}
 use Rattle.std.specs.List.{range_with_len, list_all}
 use Rattle.group_quorum.specs.Conf.{Conf}
 use Rattle.group_quorum.specs.Voters.{is_in}
@@ -10,7 +10,7 @@ use Rattle.svr_base.specs.declared.event.Event.{Event}
 use Rattle.svr_base.specs.declared.ids.ClientId.{ClientId}
 use Rattle.svr_base.specs.declared.message.Answer.{Answer}
 use Rattle.svr_base.specs.declared.want.Report.{Report}
-use Rattle.schedule_model.specs.Client.{Core, Flight, new_core}
+use Rattle.schedule_model.specs.Client.{Core, Flight}
 
 -- a message as it was sent
 pub record Sent (M : Type 0) : Type 0 where

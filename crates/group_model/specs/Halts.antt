@@ -1,5 +1,5 @@
 -- The halt laws: what holds of every run without a rollback and without a collision.
-use Rattle.std.specs.Prelude.{◌≡◌, ℕ, ◌+◌, ◌<◌, ◌⊎◌, ◌==◌, Bool, List, [], ◌∷◌, ◌++◌, length, take, Option, Some, None, IsTrue}
+use Rattle.std.specs.Prelude.{◌≡◌, ℕ, ◌<◌, ◌⊎◌, List, [], ◌∷◌, ◌++◌, length, Some, None, IsTrue}
 use Rattle.std.specs.List.{AllByRecursion}
 use Rattle.svr_base.specs.declared.entry.LogEntry.{LogEntry}
 use Rattle.svr_base.specs.declared.event.Event.{Event}
@@ -50,9 +50,13 @@ PromiseLies w r = 0 < (state_of r).promised → (t : ℕ) × (p : Path) × WasEn
 
 pub record HaltLaws (w : World) : Type 0 where
   -- at most one replica ever leads in a term
-  pub one_leader : (t u v : ℕ) → AnyByRecursion (λ (r : Recorded). (r.replica ≡ u) × LedIn t r) w.field.history → AnyByRecursion (λ (r : Recorded). (r.replica ≡ v) × LedIn t r) w.field.history → u ≡ v
+  pub one_leader :
+      (t u v : ℕ) → AnyByRecursion (λ (r : Recorded). (r.replica ≡ u) × LedIn t r) w.field.history
+      → AnyByRecursion (λ (r : Recorded). (r.replica ≡ v) × LedIn t r) w.field.history → u ≡ v
   -- two paths ever held whose entries at one index have one term are equal up to there
-  pub log_matching : (p q : Path) (a b : LogEntry) → Held w (p ++ a ∷ []) → Held w (q ++ b ∷ []) → length p ≡ length q → a.term ≡ b.term → p ++ a ∷ [] ≡ q ++ b ∷ []
+  pub log_matching :
+      (p q : Path) (a b : LogEntry) → Held w (p ++ a ∷ []) → Held w (q ++ b ∷ []) → length p ≡ length q → a.term ≡ b.term
+      → p ++ a ∷ [] ≡ q ++ b ∷ []
   pub leader_completeness : AllByRecursion (HoldsEnough w) w.field.history
   pub promises_lie : AllByRecursion (PromiseLies w) w.field.history
   -- no replica ever halts, and no halt is told

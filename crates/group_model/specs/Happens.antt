@@ -1,5 +1,5 @@
 -- What each event does to a group, with its refusals in their order.
-use Rattle.std.specs.Prelude.{ℕ, ◌+◌, ◌==◌, nat_le, not, Bool, true, false, if◌then◌else◌, List, [], ◌∷◌, ◌++◌, filter, Option, Some, None, is_none, unwrap_or, Result, Ok, Err}
+use Rattle.std.specs.Prelude.{ℕ, nat_le, not, Bool, true, false, if◌then◌else◌, List, [], ◌∷◌, Option, Some, None, is_none, unwrap_or, Result, Ok, Err}
 use Rattle.group_quorum.specs.Conf.{Conf}
 use Rattle.group_quorum.specs.Voters.{conf_of, insert_rising, is_in}
 use Rattle.group_quorum.specs.declared.ConfigFault.{ConfigFault}
@@ -8,12 +8,11 @@ use Rattle.svr_base.specs.declared.event.Event.{Event}
 use Rattle.svr_base.specs.declared.event.Event.TheVariants as event
 use Rattle.svr_base.specs.declared.ids.ClientId.{ClientId}
 use Rattle.svr_base.specs.declared.want.Report.{Report}
-use Rattle.svr_base.specs.declared.want.Want.{Want}
 use Rattle.svr_base.specs.declared.want.WantFault.{WantFault}
 use Rattle.svr_base.specs.declared.want.WantFault.TheVariants as want
 use Rattle.schedule_model.specs.Client.{Core, new_core, wanted, said, heard}
 use Rattle.schedule_model.specs.Lines.{GroupRefusal, NoMessage, Lost, NotRunning, AlreadyStarted, NoSuchState, ClientBusy, WrongSize, NumbersOut, NothingInFlight, NoAnswer, NotYours}
-use Rattle.group_model.specs.Enclave.{Hello, Begin, Learn, HostInput, Tick, Peer, Client, Join, Admit, Remove, Save, Roll, Connect, Margin}
+use Rattle.group_model.specs.Enclave.{Begin, Learn, HostInput, Tick, Peer, Client, Join, Admit, Remove, Save, Roll, Connect, Margin}
 use Rattle.group_model.specs.Field.{Field, Reply, Answers, Unreadable, Nothing}
 use Rattle.group_model.specs.Group.{Setup, Group, Sent, Answered, Hearing, numbered, but, is_client, core_of, put_core, saves_of, keeps}
 
@@ -63,7 +62,14 @@ module _ {M F : Type 0} (field : Field M F) where
   abbrev pub begins : ℕ → Result Conf ConfigFault → Group M F → Happening M F
   begins limit (Err fault) g = Happened Passed g
   begins limit (Ok c) g =
-      Happened Passed (record g { setup = Some (record { limit = limit; first = c }); running = c.voters; started = c.voters; confs = c ∷ g.confs; field = starts_all g.field c limit c.voters })
+      Happened Passed
+      (record g {
+        setup = Some (record { limit = limit; first = c });
+        running = c.voters;
+        started = c.voters;
+        confs = c ∷ g.confs;
+        field = starts_all g.field c limit c.voters;
+      })
 
   -- a learner starts, linked with every running replica: it with them, and then each of them with it, in rising order
   abbrev pub connected : ℕ → List ℕ → F → (F → Happening M F) → Happening M F
@@ -73,7 +79,8 @@ module _ {M F : Type 0} (field : Field M F) where
 
   abbrev pub starts : ℕ → Group M F → Happening M F
   starts x g =
-      connected x g.running (field.start g.field (Learn x g.running)) (λ f. Happened Passed (record g { running = insert_rising x g.running; started = x ∷ g.started; field = f }))
+      connected x g.running (field.start g.field (Learn x g.running))
+      (λ f. Happened Passed (record g { running = insert_rising x g.running; started = x ∷ g.started; field = f }))
 
   abbrev pub hands : ℕ → Sent M → Group M F → Happening M F
   hands k m g = calls m.to (Peer m.from m.to m.message) (record g { waiting = but k g.waiting })
@@ -84,7 +91,8 @@ module _ {M F : Type 0} (field : Field M F) where
 
   abbrev pub loses : ℕ → Option (Sent M) → Group M F → Happening M F
   loses k None g = refused (NoMessage k) g
-  loses k (Some m) g = unless (is_in g.lost k) (Lost k) g (λ g. Happened Passed (record g { lost = k ∷ g.lost; waiting = but k g.waiting }))
+  loses k (Some m) g =
+      unless (is_in g.lost k) (Lost k) g (λ g. Happened Passed (record g { lost = k ∷ g.lost; waiting = but k g.waiting }))
 
   abbrev pub crashes : ℕ → Group M F → Happening M F
   crashes r g = Happened Passed (record g { running = but r g.running; field = field.stop g.field r })

@@ -1,5 +1,5 @@
 -- The one-log laws: what holds of every run within the rollback bound and without a collision.
-use Rattle.std.specs.Prelude.{◌≡◌, ℕ, ◌<◌, List, [], ◌∷◌, take, Option, Some, IsSomeAnd, Ok, map}
+use Rattle.std.specs.Prelude.{◌≡◌, ℕ, ◌<◌, List, take, Some, IsSomeAnd, Ok}
 use Rattle.std.specs.List.{AllByRecursion}
 use Rattle.svr_base.specs.declared.entry.Body.TheVariants.{Ask}
 use Rattle.svr_base.specs.declared.entry.Hash.{Hash}
@@ -15,7 +15,7 @@ use Rattle.record_table.specs.declared.status.TheConstants.{OK}
 use Rattle.record_table.specs.Places.{ClientAsk, Places, ask_at, Acts}
 use Rattle.record_table.specs.Laws.{NumbersRise, GuessesEnd, Earned, IsKnown}
 use Rattle.record_table.specs.Places.{fold_places}
-use Rattle.replica_model.specs.Path.{Path, Link, entry_at}
+use Rattle.replica_model.specs.Path.{Link, entry_at}
 use Rattle.replica_model.specs.Folds.{places_of, reply_of}
 use Rattle.group_model.specs.Enclave.{Client}
 use Rattle.group_model.specs.Run.{Recorded, World, run}
@@ -62,11 +62,14 @@ pub record OneLogLaws (w : World) : Type 0 where
 
 -- the promise
 abbrev pub OneLog : Type 0
-OneLog = (link : Link) (events : List Event) → WithinBound (run link events) → NoCollision link (run link events) → OneLogLaws (run link events)
+OneLog =
+    (link : Link) (events : List Event) → WithinBound (run link events) → NoCollision link (run link events)
+    → OneLogLaws (run link events)
 
 -- of a client's number at most one place of the log acts, once the client is known
 abbrev pub ActsOnce : World → Type 0
 ActsOnce w =
-    (i k : ℕ) (a b : ClientAsk) → ask_at (log_places w) i ≡ Some a → ask_at (log_places w) k ≡ Some b → a.client ≡ b.client → a.number ≡ b.number
-    → Acts (limit_of w) (log_places w) i → Acts (limit_of w) (log_places w) k → IsKnown (fold_places (limit_of w) (take i (log_places w))) a.client
+    (i k : ℕ) (a b : ClientAsk) → ask_at (log_places w) i ≡ Some a → ask_at (log_places w) k ≡ Some b
+    → a.client ≡ b.client → a.number ≡ b.number → Acts (limit_of w) (log_places w) i → Acts (limit_of w) (log_places w) k
+    → IsKnown (fold_places (limit_of w) (take i (log_places w))) a.client
     → i < k → ⊥

@@ -1,5 +1,5 @@
 -- What a run's history tells: the log, the outcomes, what was held and promised, who was rolled back.
-use Rattle.std.specs.Prelude.{◌≡◌, ℕ, zero, suc, ◌+◌, ◌*◌, ◌<◌, ◌≤◌, ◌==◌, ◌⊎◌, nat_lt, Bool, true, if◌then◌else◌, List, [], ◌∷◌, ◌++◌, map, length, take, find, filter_map, flat_map, count_by, Option, Some, None, option_map, unwrap_or, IfSome, Result, Ok, Err}
+use Rattle.std.specs.Prelude.{◌≡◌, ℕ, zero, suc, ◌+◌, ◌*◌, ◌<◌, ◌≤◌, ◌==◌, ◌⊎◌, nat_lt, Bool, true, if◌then◌else◌, List, [], ◌∷◌, ◌++◌, map, length, take, find, filter_map, count_by, Option, Some, None, option_map, unwrap_or, IfSome, Result, Ok, Err}
 use Rattle.group_quorum.specs.Conf.{Conf, Met}
 use Rattle.group_quorum.specs.Voters.{is_in}
 use Rattle.svr_base.specs.declared.entry.Body.TheVariants.{Members}
@@ -64,7 +64,8 @@ Held w p = AnyByRecursion (λ r. IsFrontOf p (state_of r).path) w.field.history
 
 -- a replica ever promised a path that begins with p up to there
 abbrev pub EverPromised : World → ℕ → Path → Type 0
-EverPromised w v p = AnyByRecursion (λ (r : Recorded). (r.replica ≡ v) × IsFrontOf p (promised_path (state_of r))) w.field.history
+EverPromised w v p =
+    AnyByRecursion (λ (r : Recorded). (r.replica ≡ v) × IsFrontOf p (promised_path (state_of r))) w.field.history
 
 -- at most twice its margin of a configuration's voters were ever rolled back
 abbrev pub Bears : World → Conf → Type 0
@@ -73,15 +74,19 @@ Bears w c = count_by (is_in w.rolled) c.voters ≤ 2 * c.margin
 -- within the rollback bound: the first configuration bears what was rolled back, and each that a path ever gained
 pub record WithinBound (w : World) : Type 0 where
   pub first : IfSome w.setup (λ setup. Bears w setup.first)
-  pub gained : (p : Path) (term margin : ℕ) (voters : List ℕ) → Held w (p ++ record { term = term; body = Members margin voters } ∷ []) → Bears w (record { margin = margin; voters = voters })
+  pub gained :
+      (p : Path) (term margin : ℕ) (voters : List ℕ) → Held w (p ++ record { term = term; body = Members margin voters } ∷ [])
+      → Bears w (record { margin = margin; voters = voters })
 
 -- no two different inputs of the link function, over the paths that were ever held, give one hash
 abbrev pub NoCollision : Link → World → Type 0
 NoCollision link w =
-    (p q : Path) (a b : LogEntry) → Held w (p ++ a ∷ []) → Held w (q ++ b ∷ []) → link (chain link p) (length p + 1) a ≡ link (chain link q) (length q + 1) b
+    (p q : Path) (a b : LogEntry) → Held w (p ++ a ∷ []) → Held w (q ++ b ∷ [])
+    → link (chain link p) (length p + 1) a ≡ link (chain link q) (length q + 1) b
     → (chain link p ≡ chain link q) × (length p ≡ length q) × (a ≡ b)
 
--- an outcome that was answered: by which call, the first of these, to whose request, at which index, and the reply. The request is the ticket's
+-- an outcome that was answered: by which call, the first of these, to whose request, at which index, and the reply. The
+-- request is the ticket's
 pub record Outcome : Type 0 where
   pub calls : List Recorded
   pub replica : ℕ
@@ -93,7 +98,8 @@ pub record Outcome : Type 0 where
 
 -- the ticket that a request handed to a replica may get
 abbrev pub new_ticket : Replica → ClientId → ℕ → Result Request RequestFault → List Ticket
-new_ticket s client number (Ok request) = record { index = length s.path + 1; client = client; number = number; request = request } ∷ []
+new_ticket s client number (Ok request) =
+    record { index = length s.path + 1; client = client; number = number; request = request } ∷ []
 new_ticket s client number (Err fault) = []
 
 abbrev pub asked_in : Replica → Option (HostInput Message) → List Ticket
@@ -102,11 +108,21 @@ asked_in s input = []
 
 -- the request of the ticket of an index, among those that the call found and the one that it may have made
 abbrev pub ticket_request : Recorded → ℕ → Option Request
-ticket_request r index = option_map (λ (t : Ticket). t.request) (find (λ t. t.index == index) (r.before.tickets ++ asked_in r.before r.input))
+ticket_request r index =
+    option_map (λ (t : Ticket). t.request) (find (λ t. t.index == index) (r.before.tickets ++ asked_in r.before r.input))
 
 abbrev pub outcome_in : Recorded → List Recorded → ClientId × ℕ × Answer → Option Outcome
 outcome_in r calls (client, number, answer.Outcome index reply) =
-    Some (record { calls = calls; replica = r.replica; client = client; number = number; request = ticket_request r index; index = index; reply = reply })
+    Some
+    (record {
+      calls = calls;
+      replica = r.replica;
+      client = client;
+      number = number;
+      request = ticket_request r index;
+      index = index;
+      reply = reply;
+    })
 outcome_in r calls (client, number, other) = None
 
 -- all outcomes of a history, the newest call's first
@@ -123,15 +139,19 @@ pub record MetBy (c : Conf) (R : ℕ → Type 0) : Type 0 where
   pub each : (v : ℕ) → who v ≡ true → R v
   pub enough : Met c who
 
--- the path up to its last Members entry, and the same without that entry's own place
+-- the path up to its last Members entry
 abbrev pub to_last_members : Path → Path
 to_last_members p = take (conf_index p) p
 
 -- a path is backed as a whole, over paths that were backed earlier
 pub record Backs (w : World) (Earlier : Path → Type 0) (p : Path) : Type 0 where
   pub whole : MetBy (conf (setup_of w).first p) (λ v. EverPromised w v p)
-  pub newest : 0 < conf_index p → MetBy (older_conf (setup_of w).first p) (λ v. EverPromised w v (to_last_members p)) ⊎ Earlier (to_last_members p)
-  pub older : (u z : Path) (term margin : ℕ) (voters : List ℕ) → u ++ record { term = term; body = Members margin voters } ∷ z ≡ p → length u + 1 < conf_index p → Earlier (u ++ record { term = term; body = Members margin voters } ∷ [])
+  pub newest :
+      0 < conf_index p
+      → MetBy (older_conf (setup_of w).first p) (λ v. EverPromised w v (to_last_members p)) ⊎ Earlier (to_last_members p)
+  pub older :
+      (u z : Path) (term margin : ℕ) (voters : List ℕ) → u ++ record { term = term; body = Members margin voters } ∷ z ≡ p
+      → length u + 1 < conf_index p → Earlier (u ++ record { term = term; body = Members margin voters } ∷ [])
 
 -- the paths that are backed in so many rounds
 abbrev pub BackedIn : World → ℕ → Path → Type 0

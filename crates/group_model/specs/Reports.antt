@@ -1,5 +1,5 @@
 -- What a client's reports say of the log.
-use Rattle.std.specs.Prelude.{◌≡◌, ℕ, ◌<◌, true, false, List, [], ◌∷◌, take, Option, Some, None, IsSomeAnd}
+use Rattle.std.specs.Prelude.{◌≡◌, ℕ, ◌<◌, true, List, [], ◌∷◌, take, Option, Some, None, IsSomeAnd}
 use Rattle.std.specs.List.{AllByRecursion}
 use Rattle.svr_base.specs.declared.entry.Hash.{Hash}
 use Rattle.svr_base.specs.declared.event.Event.{Event}
@@ -19,7 +19,7 @@ use Rattle.record_table.specs.Places.{ActsAs, reply_at, fold_places}
 use Rattle.record_table.specs.Laws.{Earned, record_of}
 use Rattle.replica_model.specs.Path.{Link}
 use Rattle.schedule_model.specs.Client.{Flight, Reports, reply_meaning}
-use Rattle.group_model.specs.Group.{Hearing, Answered}
+use Rattle.group_model.specs.Group.{Hearing}
 use Rattle.group_model.specs.Run.{World, run}
 use Rattle.group_model.specs.Log.{AnyByRecursion, WithinBound, NoCollision}
 use Rattle.group_model.specs.Laws.{limit_of, log_places}
@@ -38,7 +38,8 @@ abbrev pub Heard : ClientId → Want → ℕ → Reply → Hearing → Type 0
 Heard c wanted index reply h =
     (h.client ≡ c) × IsSomeAnd h.flight (λ flight. flight.want ≡ wanted) × (h.answered.answer ≡ Outcome index reply)
 
--- stored: the client heard of its backup and, later in the log, of its expose; and there the record stands, exposed, with all its tries
+-- stored: the client heard of its backup and, later in the log, of its expose; and there the record stands, exposed, with
+-- all its tries
 pub record StoredHolds (w : World) (c : ClientId) (heard : List Hearing) (secret : List ℕ) (pin : Hash) (tries : ℕ) : Type 0 where
   pub backup : ℕ
   pub expose : ℕ
@@ -48,7 +49,9 @@ pub record StoredHolds (w : World) (c : ClientId) (heard : List Hearing) (secret
   pub backed_up : ActsAs (limit_of w) (log_places w) backup c (Backup secret pin tries)
   pub exposed : ActsAs (limit_of w) (log_places w) expose c (Expose secret)
   pub done : reply_at (limit_of w) (log_places w) expose ≡ Some (Applied (Exposed OK))
-  pub kept : record_of (fold_places (limit_of w) (take expose (log_places w))) c ≡ Some (record { secret = secret; pin = pin; left = tries; exposed = true })
+  pub kept :
+      record_of (fold_places (limit_of w) (take expose (log_places w))) c
+      ≡ Some (record { secret = secret; pin = pin; left = tries; exposed = true })
 
 -- recovered: the secret was earned at the heard place, with the want's PIN
 pub record RecoveredHolds (w : World) (c : ClientId) (pin : Hash) (secret : List ℕ) (left : ℕ) (h : Hearing) : Type 0 where
@@ -94,5 +97,6 @@ ReportsHold w c (h ∷ hs) = (h.client ≡ c → HearingHolds w c (h ∷ hs) h h
 -- the promise
 abbrev pub ReportsFollow : Type 0
 ReportsFollow =
-    (link : Link) (events : List Event) (c : ClientId) → WithinBound (run link events) → NoCollision link (run link events) → IsOnlySaid (run link events) c
+    (link : Link) (events : List Event) (c : ClientId) → WithinBound (run link events) → NoCollision link (run link events)
+    → IsOnlySaid (run link events) c
     → ReportsHold (run link events) c (run link events).hearings

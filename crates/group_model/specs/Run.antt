@@ -11,7 +11,8 @@ use Rattle.group_model.specs.Field.{Field, Reply, Answers, Nothing}
 use Rattle.group_model.specs.Group.{Group, nothing_started}
 use Rattle.group_model.specs.Happens.{Happening, Happened, Broken, Unanswered, happens}
 
--- a call as it is recorded: the replica, the state that it found, what was handed, which is nothing at the start, and what it left
+-- a call as it is recorded: the replica, the state that it found, what was handed, which is nothing at the start, and what
+-- it left
 pub record Recorded : Type 0 where
   pub replica : ℕ
   pub before : Replica

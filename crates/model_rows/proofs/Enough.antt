@@ -1,9 +1,8 @@
 -- What had enough marks in a world whose history computes, and who leads later without it.
-use Rattle.std.proofs.Common.{◌≡◌, ℕ, ◌+◌, ◌==◌, ◌&&◌, ◌<◌, not, Bool, true, false, List, [], ◌∷◌, ◌++◌, length, take, drop, refl, sym, subst, ap, ◌∙◌, inl, inr, take-append-drop}
-use Rattle.std.specs.Prelude.{nat_lt, nat_le, ◌||◌}
+use Rattle.std.proofs.Common.{◌≡◌, ℕ, ◌==◌, ◌&&◌, not, Bool, true, false, List, [], ◌∷◌, ◌++◌, length, take, drop, refl, subst, inl, inr, take-append-drop}
+use Rattle.std.specs.Prelude.{nat_lt, ◌||◌}
 use Rattle.std.specs.List.{list_any, AllByRecursion}
 use Rattle.std.proofs.lemmas.Bool.{and_parts, eqb-true, leb-true}
-use Rattle.svr_base.specs.declared.entry.LogEntry.{LogEntry}
 use Rattle.replica_model.specs.Path.{Path}
 use Rattle.replica_model.specs.Raise.{may_promise}
 use Rattle.replica_model.specs.Replica.{Replica, Role, Learner, Follower, Candidate, Leader}

@@ -1,5 +1,5 @@
 -- How the premises of the laws are shown of a world whose history computes.
-use Rattle.std.proofs.Common.{◌≡◌, ℕ, ◌+◌, ◌*◌, ◌==◌, ◌&&◌, ◌||◌, not, Bool, true, false, List, [], ◌∷◌, ◌++◌, length, refl, sym, subst, ap, ◌∙◌, inl, inr, arith, ◌⊎◌}
+use Rattle.std.proofs.Common.{◌≡◌, ℕ, ◌+◌, ◌==◌, ◌&&◌, ◌||◌, not, Bool, true, false, List, [], ◌∷◌, ◌++◌, length, refl, subst, ap, inl, inr, arith}
 use Rattle.std.specs.Prelude.{flat_map, bytes_eq, Option, Some, None, IfSome}
 use Rattle.std.specs.List.{list_all}
 use Rattle.std.proofs.lemmas.Bool.{and_parts, eqb-true, leb-true}
@@ -13,7 +13,7 @@ use Rattle.replica_model.specs.Path.{Path, Link, chain, chain_from, first_hash, 
 use Rattle.replica_model.specs.Configs.{is_members}
 use Rattle.group_model.specs.Group.{Setup, is_client}
 use Rattle.trace_model.specs.Audit.{same_entry, same_body}
-use Rattle.group_model.specs.Log.{AnyByRecursion, IsFrontOf, Held, Bears, NoCollision, WithinBound, state_of}
+use Rattle.group_model.specs.Log.{AnyByRecursion, IsFrontOf, Bears, NoCollision, WithinBound, state_of}
 use Rattle.group_model.specs.Run.{Recorded, World}
 use Rattle.model_rows.proofs.Tests.{clash, bears_first}
 

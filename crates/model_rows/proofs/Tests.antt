@@ -1,9 +1,8 @@
 -- What a law that holds would make of tests that compute.
-use Rattle.std.proofs.Common.{◌≡◌, ℕ, ◌==◌, ◌&&◌, ◌≤◌, Bool, true, false, List, [], ◌∷◌, ◌++◌, map, count_by, refl, subst, ap, Option, Some, None}
-use Rattle.std.specs.Prelude.{IfSome, is_none, nat_le, eqb, leb}
+use Rattle.std.proofs.Common.{◌≡◌, ℕ, ◌==◌, ◌&&◌, Bool, true, false, List, [], ◌∷◌, ◌++◌, map, refl, subst, ap, Option, Some, None}
+use Rattle.std.specs.Prelude.{IfSome, is_none}
 use Rattle.std.specs.List.{AllByRecursion, list_all}
 use Rattle.std.proofs.lemmas.Bool.{eq-eqb, le-leb}
-use Rattle.svr_base.specs.declared.entry.LogEntry.{LogEntry}
 use Rattle.replica_model.specs.Path.{Path}
 use Rattle.group_model.specs.Group.{Setup, bears}
 use Rattle.group_model.specs.Log.{IsFrontOf, Bears}

@@ -1,5 +1,5 @@
 -- A schedule whose calls are answered by contents that name batches.
-use Rattle.std.specs.Prelude.{◌≡◌, ℕ, List, [], ◌∷◌, ◌++◌, map, filter, reverse, length, slice_get, slice_index, is_some}
+use Rattle.std.specs.Prelude.{◌≡◌, ℕ, List, [], ◌∷◌, ◌++◌, map, filter, reverse, slice_get, slice_index, is_some}
 use Rattle.std.specs.List.{range_with_len}
 use Prim.Native.String.{String}
 use Rattle.svr_base.specs.declared.batch.Batch.{Batch}

@@ -1,13 +1,13 @@
 -- Traces by what their lines say.
-use Rattle.std.specs.Prelude.{ℕ, true, List, [], ◌∷◌, ◌++◌, map, replicate, Option, Some, unwrap_or}
-use Rattle.svr_base.specs.declared.entry.Body.TheVariants.{Noop, Ask}
+use Rattle.std.specs.Prelude.{ℕ, true, List, [], ◌∷◌, ◌++◌, map, replicate, Some}
+use Rattle.svr_base.specs.declared.entry.Body.TheVariants.{Noop}
 use Rattle.svr_base.specs.declared.entry.LogEntry.{LogEntry}
 use Rattle.svr_base.specs.declared.event.Event.TheVariants as event
 use Rattle.svr_base.specs.declared.ids.ClientId.{ClientId}
 use Rattle.svr_base.specs.declared.message.Reply.TheVariants.{Applied}
 use Rattle.svr_base.specs.declared.message.Response.TheVariants.{Backup}
 use Rattle.trace_model.specs.Audit.{Verdict, verdict, new_audit}
-use Rattle.trace_model.specs.TraceLines.{TraceLine, EventLine, Commit, Outcome, Members, Refused, LogEnd, Rollbacks, End, Stopped, Other}
+use Rattle.trace_model.specs.TraceLines.{TraceLine, EventLine, Commit, Outcome, LogEnd, Rollbacks, End, Other}
 use Rattle.model_rows.specs.Broken.{entry}
 
 -- the client and the two entries of the run of one voter and one backup

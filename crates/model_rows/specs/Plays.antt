@@ -1,5 +1,5 @@
 -- What it means that a schedule has a trace, under the toy link.
-use Rattle.std.specs.Prelude.{◌≡◌, ℕ, List}
+use Rattle.std.specs.Prelude.{◌≡◌, List}
 use Prim.Native.String.{String}
 use Rattle.trace_model.specs.Schedules.{trace_of}
 use Rattle.trace_model.specs.Driven.{driven_trace}

@@ -1,14 +1,13 @@
 -- Sessions over an easy wording of contents, messages and batches.
-use Rattle.std.specs.Prelude.{◌≡◌, ℕ, ◌==◌, if◌then◌else◌, slice_index, List, [], ◌∷◌, ◌++◌, map, drop, length, replicate, flat_map, Option, Some, None, Result, Ok, Err}
+use Rattle.std.specs.Prelude.{◌≡◌, ℕ, ◌==◌, if◌then◌else◌, slice_index, List, [], ◌∷◌, ◌++◌, map, drop, length, replicate, flat_map, Result, Ok, Err}
 use Rattle.std.specs.Int.{w32, to_be_bytes}
 use Prim.Native.String.{String}
-use Rattle.svr_base.specs.declared.batch.Batch.{Batch}
 use Rattle.svr_base.specs.declared.peer.PeerMsg.{PeerMsg}
 use Rattle.svr_base.specs.declared.peer.PeerMsg.TheVariants.{AskVote}
 use Rattle.replica_model.specs.Replica.{nothing_named}
 use Rattle.schedule_model.specs.Lines.{lines_text, batch_lines}
 use Rattle.group_model.specs.Enclave.{Begin, Tick, Save, Roll}
-use Rattle.trace_model.specs.Session.{Content, Starts, Frames, Hands, Wording, Session, End, Tagging, untagged, tagged_by, session_with, batch_frames}
+use Rattle.trace_model.specs.Session.{Content, Starts, Frames, Hands, Wording, End, untagged, tagged_by, session_with, batch_frames}
 use Rattle.model_rows.specs.Shown.{text_of}
 use Rattle.model_rows.specs.Toy.{toy_link}
 

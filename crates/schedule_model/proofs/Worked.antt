@@ -1,18 +1,17 @@
 -- Records, lines and a client's core, run on short texts.
-use Rattle.std.proofs.Common.{◌≡◌, ℕ, ◌+◌, ◌-◌, ◌^◌, true, false, List, [], ◌∷◌, ◌++◌, replicate, Some, None, Ok, Err, refl}
-use Rattle.std.specs.Prelude.{Bool, Option, Result, codes, option_map}
+use Rattle.std.proofs.Common.{◌≡◌, ℕ, ◌-◌, ◌^◌, true, false, List, [], ◌∷◌, replicate, Some, None, Ok, Err, refl}
+use Rattle.std.specs.Prelude.{Bool, Option, Result, codes}
 use Rattle.std.specs.Fmt.{digits}
 use Rattle.csv.proofs.OnLiterals.{csv_on_literals}
 use Rattle.hex.proofs.OnLiterals.{hex_on_literals}
-use Rattle.svr_base.specs.declared.entry.Hash.{Hash}
 use Rattle.svr_base.specs.declared.event.Cause.{Cause}
 use Rattle.svr_base.specs.declared.event.Cause.TheVariants as cause
 use Rattle.svr_base.specs.declared.event.Event.{Event}
 use Rattle.svr_base.specs.declared.event.Event.TheVariants as event
 use Rattle.svr_base.specs.declared.ids.ClientId.{ClientId}
-use Rattle.svr_base.specs.declared.message.Answer.TheVariants.{Outcome, Undecided, NotLeader}
+use Rattle.svr_base.specs.declared.message.Answer.TheVariants.{Outcome}
 use Rattle.svr_base.specs.declared.message.Reply.TheVariants.{Applied, Stale}
-use Rattle.svr_base.specs.declared.message.Response.TheVariants.{Backup, Restore, Expose}
+use Rattle.svr_base.specs.declared.message.Response.TheVariants.{Backup, Expose}
 use Rattle.svr_base.specs.declared.want.Report.TheVariants as report
 use Rattle.svr_base.specs.declared.want.Want.{Want}
 use Rattle.svr_base.specs.declared.want.Want.TheVariants as want
@@ -20,8 +19,8 @@ use Rattle.svr_base.specs.declared.want.WantFault.TheVariants as fault
 use Rattle.schedule_model.specs.Cutting.{lines_with, records_of, whole_records}
 use Rattle.schedule_model.specs.Reading.{RecordFault}
 use Rattle.schedule_model.specs.Records.{event_of}
-use Rattle.schedule_model.specs.Lines.{event_line, batch_lines, line_text}
-use Rattle.schedule_model.specs.Client.{Core, Flight, new_core, wanted, heard}
+use Rattle.schedule_model.specs.Lines.{event_line, line_text}
+use Rattle.schedule_model.specs.Client.{Core, new_core, wanted, heard}
 
 -- what texts are read and written with
 unfoldable reading : Unit {0}

@@ -1,5 +1,5 @@
 -- A client's core: what it wants, the request in flight, and what it makes of the answers that it hears.
-use Rattle.std.specs.Prelude.{ℕ, ◌+◌, ◌-◌, ◌==◌, ◌&&◌, nat_lt, max, if◌then◌else◌, Bool, true, false, List, Option, Some, None, option_map, Result, Ok, Err}
+use Rattle.std.specs.Prelude.{ℕ, ◌+◌, ◌-◌, ◌==◌, nat_lt, max, if◌then◌else◌, Bool, true, false, List, Option, Some, None, option_map, Result, Ok, Err}
 use Rattle.svr_base.specs.declared.message.Answer.{Answer}
 use Rattle.svr_base.specs.declared.message.Answer.TheVariants as answer
 use Rattle.svr_base.specs.declared.message.Part.{Part}
@@ -55,10 +55,12 @@ flight_request f = if f.exposes then second_request f.want else first_request f.
 
 -- what is in flight moves to the next number
 abbrev pub flies : Core → Want → Bool → Core
-flies core w exposes = record { last = core.last + 1; flight = Some (record { want = w; number = core.last + 1; exposes = exposes }) }
+flies core w exposes =
+    record { last = core.last + 1; flight = Some (record { want = w; number = core.last + 1; exposes = exposes }) }
 
 abbrev pub want_numbers : Core → Want → Result Core WantFault
-want_numbers core w = if nat_lt (max_u64 - core.last) (numbers_needed w) then Err (fault.NumbersOut core.last) else Ok (flies core w false)
+want_numbers core w =
+    if nat_lt (max_u64 - core.last) (numbers_needed w) then Err (fault.NumbersOut core.last) else Ok (flies core w false)
 
 abbrev pub want_sizes : Core → Want → Option (Part × ℕ) → Result Core WantFault
 want_sizes core w (Some (part, length)) = Err (fault.Size part length)

@@ -6,10 +6,15 @@ use Rattle.csv.specs.Reading.{default_config, records, strip_bom}
 abbrev pub Fields : Type 0
 Fields = List (List ℕ)
 
--- the lines of bytes, each with its line feed, the first of which has begun; `last` makes lines of what follows the last line feed
+-- the lines of bytes, each with its line feed, the first of which has begun; `last` makes lines of what follows the last
+-- line feed
 unfoldable pub lines_with : (List ℕ → List (List ℕ)) → List ℕ → List ℕ → List (List ℕ)
 lines_with last begun [] = last begun
-lines_with last begun (b ∷ bs) = elim (b == 10) [ true ↦ (begun ++ (b ∷ [])) ∷ lines_with last [] bs | false ↦ lines_with last (begun ++ (b ∷ [])) bs ]
+lines_with last begun (b ∷ bs) =
+    elim (b == 10) [
+      | true ↦ (begun ++ (b ∷ [])) ∷ lines_with last [] bs
+      | false ↦ lines_with last (begun ++ (b ∷ [])) bs
+    ]
 
 -- what follows the last line feed is a line where it is not empty
 abbrev pub line_if_any : List ℕ → List (List ℕ)

@@ -1,5 +1,5 @@
 -- The lines of a trace: those of an event, of a batch, of a client's report, and those at the end.
-use Rattle.std.specs.Prelude.{ℕ, ◌+◌, Bool, true, false, if◌then◌else◌, List, [], ◌∷◌, ◌++◌, map, length, flat_map, option_map, option_to_list, codes, decimal, Option, Some, None}
+use Rattle.std.specs.Prelude.{ℕ, Bool, true, false, if◌then◌else◌, List, [], ◌∷◌, ◌++◌, map, length, flat_map, option_map, option_to_list, codes, decimal, Option}
 use Rattle.std.specs.List.{join_with_byte, enumerate_from}
 use Rattle.hex.specs.Hex.{encode_lower}
 use Rattle.svr_base.specs.declared.batch.Batch.{Batch}

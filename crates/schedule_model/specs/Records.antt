@@ -1,5 +1,5 @@
 -- The event that a record of a schedule stands for, or its fault.
-use Rattle.std.specs.Prelude.{ℕ, ◌==◌, nat_eq, nat_le, ◌||◌, ◌&&◌, not, if◌then◌else◌, Bool, true, false, List, [], ◌∷◌, length, drop, bytes_eq, codes, Option, Some, None, Result, Ok, Err}
+use Rattle.std.specs.Prelude.{ℕ, ◌==◌, nat_eq, nat_le, ◌&&◌, if◌then◌else◌, Bool, true, false, List, [], ◌∷◌, length, drop, bytes_eq, codes, Option, Some, None, Result, Ok, Err}
 use Rattle.std.specs.List.{starts_with}
 use Rattle.group_quorum.specs.Voters.{fault_of}
 use Rattle.group_quorum.specs.declared.ConfigFault.{ConfigFault}

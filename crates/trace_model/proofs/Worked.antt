@@ -1,6 +1,6 @@
 -- Traces of short schedules, with a link that is easy to read.
 use Rattle.std.proofs.Common.{◌≡◌, ℕ, ◌+◌, ◌*◌, true, false, List, [], ◌∷◌, ◌++◌, map, replicate, Some, None, refl}
-use Rattle.std.specs.Prelude.{Option, codes}
+use Rattle.std.specs.Prelude.{codes}
 use Rattle.std.specs.Fmt.{digits}
 use Rattle.csv.proofs.OnLiterals.{csv_on_literals}
 use Rattle.hex.proofs.OnLiterals.{hex_on_literals}
@@ -11,13 +11,13 @@ use Rattle.svr_base.specs.declared.entry.LogEntry.{LogEntry}
 use Rattle.svr_base.specs.declared.event.Event.TheVariants as event
 use Rattle.replica_model.specs.Path.{Link}
 use Rattle.schedule_model.specs.Cutting.{lines_with}
-use Rattle.schedule_model.specs.Lines.{line_text, Quantity, Events, Messages, Answers, Replicas, States, Clients}
+use Rattle.schedule_model.specs.Lines.{line_text, Replicas, States}
 use Rattle.schedule_model.specs.Written.{all_written}
 use Rattle.group_model.specs.Run.{World, empty_world}
 use Rattle.trace_model.specs.Limits.{passed_before, passed_after}
 use Rattle.trace_model.specs.Schedules.{trace_of, whole_text_of}
 use Rattle.trace_model.specs.TableText.{table_text}
-use Rattle.trace_model.specs.Driver.{Driver, Silence, Progress, Report, Led, Other, seen}
+use Rattle.trace_model.specs.Driver.{Driver, Silence, Led, seen}
 use Rattle.trace_model.specs.TraceLines.{TraceLine, EventLine, Commit, Refused, LogEnd, Rollbacks, End, Stopped}
 use Rattle.trace_model.specs.Audit.{Verdict, Accepts, Refuses, WrongCommit, WrongRollbacks, WrongEnd, verdict, new_audit}
 

@@ -1,7 +1,6 @@
 -- What an auditor accepts: it reads a trace alone, and keeps a book of the entries that were committed.
-use Rattle.std.specs.Prelude.{◌≡◌, ℕ, zero, suc, ◌+◌, ◌==◌, ◌&&◌, ◌⊎◌, not, nat_le, Bool, true, false, if◌then◌else◌, List, [], ◌∷◌, ◌++◌, length, Option, Some, None, is_none, is_some, option_and_then, Result, Ok, Err, MatchResult, bytes_eq}
+use Rattle.std.specs.Prelude.{◌≡◌, ℕ, ◌+◌, ◌==◌, ◌&&◌, not, Bool, true, false, if◌then◌else◌, List, [], ◌∷◌, ◌++◌, length, Option, Some, None, Result, Ok, Err, bytes_eq}
 use Rattle.std.specs.List.{list_all, AllZip}
-use Rattle.std.specs.Cmp.Lexicographic.{pointwise}
 use Rattle.group_quorum.specs.Conf.{Conf}
 use Rattle.group_quorum.specs.Voters.{rising}
 use Rattle.svr_base.specs.declared.entry.Body.{Body}
@@ -17,7 +16,6 @@ use Rattle.replica_model.specs.Path.{Path, Link, entry_at}
 use Rattle.replica_model.specs.Folds.{reply_of}
 use Rattle.schedule_model.specs.Cutting.{lines_with, line_if_any}
 use Rattle.group_model.specs.Group.{Setup, bears, is_client}
-use Rattle.group_model.specs.Run.{World}
 use Rattle.trace_model.specs.Schedules.{trace_of, world_of}
 use Rattle.group_model.specs.Log.{WithinBound, NoCollision}
 use Rattle.trace_model.specs.TraceLines.{TraceLine, EventLine, Commit, Outcome, Members, Refused, LogEnd, Rollbacks, End, Stopped, Other, Says}
@@ -140,7 +138,8 @@ is_misplaced setup line = false
 -- the closing lines stand in their order, each once, with nothing after them or after a stopped line
 abbrev pub staged : Audit → Stage → TraceLine → Result Audit Why
 staged a Playing line = told a line
-staged a AfterLog (Rollbacks within) = require (same_bool within (list_all (bears a.rolled) a.confs)) WrongRollbacks (record a { stage = AfterRollbacks })
+staged a AfterLog (Rollbacks within) =
+    require (same_bool within (list_all (bears a.rolled) a.confs)) WrongRollbacks (record a { stage = AfterRollbacks })
 staged a AfterLog line = Err WrongEnd
 staged a AfterRollbacks End = Ok (record a { stage = Over })
 staged a AfterRollbacks line = Err WrongEnd
@@ -186,7 +185,8 @@ Reads line None = (what : TraceLine) → ¬ (LineSays line what)
 
 -- the verdict on a trace
 abbrev pub Audits : List ℕ → Verdict → Type 0
-Audits bytes v = (said : List (Option TraceLine)) × AllZip Reads (lines_with line_if_any [] bytes) said × (v ≡ verdict 0 new_audit said)
+Audits bytes v =
+    (said : List (Option TraceLine)) × AllZip Reads (lines_with line_if_any [] bytes) said × (v ≡ verdict 0 new_audit said)
 
 -- the promise: a trace of a run within the bound and without a collision is accepted
 abbrev pub TraceIsAccepted : Type 0

@@ -1,5 +1,5 @@
 -- A driven schedule: each accepted want is carried to its report by events of the driver's own.
-use Rattle.std.specs.Prelude.{ℕ, zero, suc, ◌+◌, ◌==◌, ◌&&◌, nat_lt, not, Bool, true, false, if◌then◌else◌, List, [], ◌∷◌, length, drop, reverse, fold, slice_get, codes, decimal, Option, Some, None, is_some, is_none, option_and_then, unwrap_or, Result, Ok, Err}
+use Rattle.std.specs.Prelude.{ℕ, zero, suc, ◌+◌, ◌==◌, ◌&&◌, not, Bool, true, false, if◌then◌else◌, List, [], ◌∷◌, length, drop, reverse, fold, slice_get, codes, decimal, Option, Some, None, is_some, is_none, option_and_then, unwrap_or, Result, Ok, Err}
 use Rattle.std.specs.List.{enumerate_from}
 use Rattle.svr_base.specs.declared.event.Event.{Event}
 use Rattle.svr_base.specs.declared.event.Event.TheVariants as event
@@ -15,7 +15,7 @@ use Rattle.schedule_model.specs.Client.{Flight}
 use Rattle.schedule_model.specs.Lines.{line_text, hex}
 use Rattle.schedule_model.specs.Written.{AtRecord, Written, On, Off, follow, all_written, text_with, last_of}
 use Rattle.group_model.specs.Field.{Field}
-use Rattle.group_model.specs.Group.{Group, Answered, nothing_started, core_of, is_client}
+use Rattle.group_model.specs.Group.{Answered, nothing_started, core_of, is_client}
 use Rattle.trace_model.specs.Driver.{Driver, Turn, Seen, Silence, Progress, Report, Led, Other, new_driver, begin_want, next_turn, seen, max_turns}
 use Rattle.trace_model.specs.Trace.{Playing, playing, counted, closing, expanded}
 use Rattle.group_model.specs.Run.{Enclaves, World, enclaves, no_enclaves}
@@ -32,7 +32,8 @@ answers_to c number a = is_client a.client c && (a.number == number)
 -- the last of these answers that is one, with its number
 abbrev pub last_answer : ClientId → ℕ → List (ℕ × Answered) → Option (ℕ × Answered)
 last_answer c number answers =
-    fold (λ (found : Option (ℕ × Answered)) (x : ℕ × Answered). if answers_to c number x.1 then Some x else found) None answers
+    fold (λ (found : Option (ℕ × Answered)) (x : ℕ × Answered). if answers_to c number x.1 then Some x else found)
+    None answers
 
 -- what an answer that gave no report shows
 abbrev pub seen_in : Answer → Seen
@@ -92,7 +93,8 @@ module _ {M F : Type 0} (field : Field M F) where
   -- the client says its request, and hears the greatest answer to it that came since
   abbrev pub asks_target : ClientId → Turn → Driving M F → Written (Driving M F)
   asks_target c t d =
-      follow (drives_settled d (event.Say c t.target)) (λ e. hears_answer c (answer_in e c (length d.playing.group.answers) (flight_of e c)) e)
+      follow (drives_settled d (event.Say c t.target))
+      (λ e. hears_answer c (answer_in e c (length d.playing.group.answers) (flight_of e c)) e)
 
   -- one turn
   abbrev pub takes_turn : ClientId → Turn → Driving M F → Written (Driving M F)
@@ -102,7 +104,10 @@ module _ {M F : Type 0} (field : Field M F) where
   abbrev pub takes_turns : ℕ → ClientId → Driving M F → Written (Driving M F)
   takes_turns zero c d = turns_end c d
   takes_turns (suc n) c d =
-      elim (next_turn d.driver) [ None ↦ turns_end c d | Some next ↦ follow (takes_turn c next.0 (record d { driver = next.1 })) (takes_turns n c) ]
+      elim (next_turn d.driver) [
+        | None ↦ turns_end c d
+        | Some next ↦ follow (takes_turn c next.0 (record d { driver = next.1 })) (takes_turns n c)
+      ]
 
   abbrev pub carries : ClientId → Driving M F → Written (Driving M F)
   carries c d = takes_turns max_turns c (record d { driver = begin_want d.driver })
@@ -119,7 +124,8 @@ module _ {M F : Type 0} (field : Field M F) where
   abbrev pub drives_on : Driving M F → Event → Written (Driving M F)
   drives_on d (event.Want c w) = follow (drives d (event.Want c w)) (drives_want c (is_some (flight_of d c)))
   drives_on d (event.Again c) = carries_if (is_some (flight_of d c)) c d
-  drives_on d (event.Begin margin limit voters) = follow (drives d (event.Begin margin limit voters)) (λ d. On [] (driver_made d))
+  drives_on d (event.Begin margin limit voters) =
+      follow (drives d (event.Begin margin limit voters)) (λ d. On [] (driver_made d))
   drives_on d e = drives d e
 
   abbrev pub driven_said : Driving M F → Result (Option Event) RecordFault → Written (Driving M F)
@@ -137,7 +143,8 @@ module _ {M F : Type 0} (field : Field M F) where
       all_written driven_record (record { playing = playing (nothing_started f); driver = new_driver 0 }) (records_of bytes)
 
 abbrev pub driven_trace : Link → List ℕ → List ℕ
-driven_trace link bytes = text_with (λ (d : Driving Message Enclaves). closing d.playing) (driven_over (enclaves link) no_enclaves bytes)
+driven_trace link bytes =
+    text_with (λ (d : Driving Message Enclaves). closing d.playing) (driven_over (enclaves link) no_enclaves bytes)
 
 abbrev pub driven_world : Link → List ℕ → World
 driven_world link bytes = (last_of (driven_over (enclaves link) no_enclaves bytes)).playing.group

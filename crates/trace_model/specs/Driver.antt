@@ -1,5 +1,5 @@
 -- How a driver carries a client's want to its report: whom the client asks, and whom it wakes first.
-use Rattle.std.specs.Prelude.{ℕ, ◌-◌, ◌==◌, nat_lt, Bool, true, false, if◌then◌else◌, List, [], ◌∷◌, find, slice_get, Option, Some, None, unwrap_or}
+use Rattle.std.specs.Prelude.{ℕ, ◌-◌, ◌==◌, nat_lt, Bool, true, false, if◌then◌else◌, List, find, slice_get, Option, Some, None, unwrap_or}
 use Rattle.group_quorum.specs.Voters.{is_in}
 
 -- the replica to ask next, whether it is woken before, and the turns that are left for the want

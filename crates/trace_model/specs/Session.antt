@@ -1,5 +1,5 @@
 -- A session: frames that a host sends to one enclave, and the batch frames that it is sent back.
-use Rattle.std.specs.Prelude.{ℕ, zero, suc, ◌+◌, ◌<◌, ◌==◌, ◌||◌, nat_le, nat_lt, not, Bool, true, false, if◌then◌else◌, List, [], ◌∷◌, ◌++◌, map, length, take, drop, bytes_eq, Option, Some, None, Result, Ok, Err}
+use Rattle.std.specs.Prelude.{ℕ, zero, suc, ◌+◌, ◌==◌, ◌||◌, nat_lt, Bool, true, false, if◌then◌else◌, List, [], ◌∷◌, ◌++◌, length, take, drop, bytes_eq, Option, Some, None, Result, Ok, Err}
 use Rattle.std.specs.List.{AllByRecursion}
 use Rattle.std.specs.Int.{w32, w64, to_be_bytes, from_be_bytes}
 use Rattle.group_quorum.specs.Voters.{is_in}
@@ -8,9 +8,9 @@ use Rattle.svr_base.specs.declared.batch.Refusal.{Refusal}
 use Rattle.svr_base.specs.declared.batch.Refusal.TheVariants.{BadPeer, NoLink, NotForMe}
 use Rattle.svr_base.specs.declared.entry.Point.{Point}
 use Rattle.svr_base.specs.declared.peer.PeerMsg.{PeerMsg}
-use Rattle.svr_base.specs.declared.peer.PeerMsg.TheVariants.{AskVote, Vote, Append, Accepted, Rejected, Part, PartTaken}
+use Rattle.svr_base.specs.declared.peer.PeerMsg.TheVariants.{Part}
 use Rattle.replica_model.specs.Path.{Link}
-use Rattle.replica_model.specs.Replica.{Named, Role, Learner, Follower, Candidate, Leader}
+use Rattle.replica_model.specs.Replica.{Named, Role, Learner}
 use Rattle.replica_model.specs.Message.{Message, plain}
 use Rattle.replica_model.specs.Tables.{IsTruePart}
 use Rattle.group_model.specs.Enclave.{Hello, HostInput, Peer, Enclave, Called, started, called, refuses}
@@ -22,7 +22,8 @@ pub data Content : Type 0 where
   Frames : (frame : List ℕ) → Content
   Hands : (input : HostInput Message) → Content
 
--- how the bytes of frames are read and written: contents, with their faults of type E; peer messages, with the offset that a refusal tells; batches
+-- how the bytes of frames are read and written: contents, with their faults of type E; peer messages, with the offset that
+-- a refusal tells; batches
 pub record Wording (E : Type 0) : Type 0 where
   pub content_of : List ℕ → Result Content E
   pub message_of : List ℕ → Result PeerMsg ℕ
@@ -37,7 +38,8 @@ pub record Tagging : Type 0 where
 abbrev pub untagged : Tagging
 untagged = record { size = 0; is_right = λ number content tag. true; tag_of = λ number content. [] }
 
--- the tag of a host's frame is made of the byte 1, the frame's number and the content; that of a batch frame of the byte 2 and the same
+-- the tag of a host's frame is made of the byte 1, the frame's number and the content; that of a batch frame of the byte 2
+-- and the same
 abbrev pub tagged_by : (List ℕ → List ℕ) → Tagging
 tagged_by hmac =
     record {
@@ -93,7 +95,8 @@ module _ {E : Type 0} (wording : Wording E) (tagging : Tagging) (link : Link) (n
   abbrev pub accepted_parts : Enclave → ℕ → ℕ → List ℕ → Result (ℕ × PeerMsg) Refusal
   accepted_parts e from to bytes = accepted_from (to == e.replica.me) (is_in e.links from) from to bytes
 
-  -- a link frame has four bytes of its sender's id, four of its addressee's, and the message. It is short, for another, from one that is not linked, or no message, tried in this order
+  -- a link frame has four bytes of its sender's id, four of its addressee's, and the message. It is short, for another, from
+  -- one that is not linked, or no message, tried in this order
   abbrev pub accepted_of : Enclave → List ℕ → Result (ℕ × PeerMsg) Refusal
   accepted_of e frame =
       if nat_lt (length frame) 8 then Err (BadPeer 0)

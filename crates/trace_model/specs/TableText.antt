@@ -71,4 +71,5 @@ rows_line s = line_text (codes "rows" ∷ decimal (length s.table.rows) ∷ [])
 
 -- the whole text, for a table of this limit
 abbrev pub table_text : ℕ → List ℕ → List ℕ
-table_text limit bytes = text_with rows_line (all_written table_played (record { records = 0; table = empty_table limit }) (records_of bytes))
+table_text limit bytes =
+    text_with rows_line (all_written table_played (record { records = 0; table = empty_table limit }) (records_of bytes))

@@ -1,5 +1,5 @@
 -- The trace of a schedule: one function of its bytes, with open ends.
-use Rattle.std.specs.Prelude.{ℕ, zero, suc, ◌+◌, Bool, true, false, List, [], ◌∷◌, ◌++◌, length, Option, Some, None, is_some, Result, Ok, Err}
+use Rattle.std.specs.Prelude.{ℕ, zero, suc, ◌+◌, false, List, [], ◌∷◌, length, Option, Some, None, is_some, Result, Ok, Err}
 use Rattle.svr_base.specs.declared.event.Event.{Event}
 use Rattle.svr_base.specs.declared.event.Event.TheVariants as event
 use Rattle.schedule_model.specs.Cutting.{Fields, records_with, records_of}
@@ -32,7 +32,8 @@ module _ {M F : Type 0} where
   -- the three closing lines
   abbrev pub closing : Playing M F → List ℕ
   closing p =
-      lines_text (closing_lines p.group.committed (is_within p.group) (length p.group.past) (length p.group.messages) (length p.group.answers))
+      lines_text
+      (closing_lines p.group.committed (is_within p.group) (length p.group.past) (length p.group.messages) (length p.group.answers))
 
   abbrev pub playing : Group M F → Playing M F
   playing g = record { records = 0; group = g }
@@ -87,7 +88,8 @@ module _ {M F : Type 0} (field : Field M F) where
   abbrev pub events_played : Playing M F → List Event → Written (Playing M F)
   events_played p events = all_written expanded p events
 
-  -- the text of bytes whose first line has begun: `last` makes lines of what follows the last line feed, and `close` closes the text
+  -- the text of bytes whose first line has begun: `last` makes lines of what follows the last line feed, and `close` closes
+  -- the text
   abbrev pub trace : (Playing M F → List ℕ) → (List ℕ → List (List ℕ)) → Playing M F → List ℕ → List ℕ → List ℕ
   trace close last p begun bytes = text_with close (records_played p (records_with last begun bytes))
 

@@ -1,7 +1,7 @@
 -- The lines that a trace may have, read again: each is what is printed of values in their ranges.
-use Rattle.std.specs.Prelude.{◌≡◌, ℕ, ◌+◌, ◌^◌, ◌⊎◌, ◌==◌, ◌&&◌, nat_le, nat_lt, not, Bool, true, false, List, [], ◌∷◌, length, codes, decimal, Option, Some, None, is_none, IsTrue, Result, Ok, Err}
+use Rattle.std.specs.Prelude.{◌≡◌, ℕ, ◌==◌, ◌&&◌, nat_le, nat_lt, not, Bool, true, false, List, [], ◌∷◌, length, Some, is_none, IsTrue, Ok}
 use Rattle.std.specs.List.{join_with_byte, list_all}
-use Rattle.group_quorum.specs.Voters.{fault_of, rising}
+use Rattle.group_quorum.specs.Voters.{fault_of}
 use Rattle.svr_base.specs.declared.batch.Refusal.{Refusal}
 use Rattle.svr_base.specs.declared.batch.Refusal.TheVariants as refusal
 use Rattle.svr_base.specs.declared.entry.Body.{Body}
@@ -17,7 +17,6 @@ use Rattle.svr_base.specs.declared.message.Answer.TheVariants as answer
 use Rattle.svr_base.specs.declared.message.Reply.{Reply}
 use Rattle.svr_base.specs.declared.message.Reply.TheVariants as reply
 use Rattle.svr_base.specs.declared.message.Request.{Request}
-use Rattle.svr_base.specs.declared.message.Part.{Part}
 use Rattle.svr_base.specs.declared.peer.PeerMsg.{PeerMsg}
 use Rattle.svr_base.specs.declared.peer.PeerMsg.TheVariants as peer
 use Rattle.svr_base.specs.declared.want.Report.{Report}

@@ -1,6 +1,6 @@
 use Rattle.std.proofs.Common.{true, [], ◌∷◌, ap, inl, refl}
 use Rattle.std.specs.Prelude.{nat_eq}
-use Rattle.model_rows.specs.Broken.{collided, entry}
+use Rattle.model_rows.specs.Broken.{entry}
 use Rattle.model_rows.proofs.Computing.{computing}
 use Rattle.model_rows.proofs.Tests.{clash}
 use Rattle.model_rows.proofs.broken.one_hash_collides.Goals as goal
