@@ -5,3 +5,4 @@ pub mod Faults
 pub mod Endings
 pub mod Pieces
 pub mod Told
+pub mod PlainLines

@@ -7,6 +7,7 @@
 #![tactic(auto)]
 
 mod lines;
+mod plain;
 mod player;
 mod source;
 

@@ -4,13 +4,14 @@ ghost use Rattle.svr_base.specs.Causes.{HasCauseAt};
 ghost use Rattle.record_stream.specs.Course.{PlaysTo};
 ghost use Rattle.record_stream.specs.Lines as spec;
 
+use crate::plain::{plain_body, split_at_commas};
 use crate::player::{Player, Stop};
 use csv::ReaderBuilder;
 use std::alloc::Global;
 use svr_base::Sink;
 
 /// Plays the records that a fresh reader reads of a line.
-pub fn play_line<P: Player, K: Sink>(
+fn read_line<P: Player, K: Sink>(
     alloc: Global,
     player: &mut P,
     line: &[u8],
@@ -32,6 +33,31 @@ pub fn play_line<P: Player, K: Sink>(
         player.play(&row, sink)?;
     }
     Ok(())
+}
+
+/// Plays the records of a line. One that means nothing to a reader but by its commas needs none, which costs
+/// far more than the cutting.
+pub fn play_line<P: Player, K: Sink>(
+    alloc: Global,
+    player: &mut P,
+    line: &[u8],
+    sink: &mut K,
+) -> Result<(), Stop<P::Reason>>
+    requires { P.count player.old + length line.now + 1 < 2 ^ 62 }
+    ensures plays { PlaysTo (P.course player.old) (spec.line_records line.now) (P.course player.new) (K.taken sink.old) (K.taken sink.new) result }
+    ensures counted { OnOk result (P.count player.new ≤ P.count player.old + length line.now + 1) }
+    ensures cause { HasCauseAt Stop.WriteFault (K.faults sink.old) (K.faults sink.new) result }
+{
+    let Some(body) = plain_body(line) else {
+        return read_line(alloc, player, line, sink);
+    };
+    if body.is_empty() {
+        return Ok(());
+    }
+    let Ok(row) = split_at_commas(alloc, body) else {
+        return Err(Stop::Memory);
+    };
+    player.play(&row, sink)
 }
 
 /// Takes a byte, and plays the line that it ends.

@@ -5,7 +5,7 @@ use Rattle.csv.specs.declared.parser.State.TheVariants as st
 use Rattle.csv.specs.declared.reader.Trim.TheVariants as trim
 use Rattle.record_stream.specs.Lines.{Record}
 use Rattle.record_stream.specs.Course.{Goes}
-use Rattle.record_stream.proofs.lines.play_line.Given as goal
+use Rattle.record_stream.proofs.lines.read_line.Given as goal
 
 -- the records so far take the line from its start to where the reader stands, and were played
 abbrev pub invariant-loop-row : goal.invariant-loop-row

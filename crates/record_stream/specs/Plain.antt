@@ -1,0 +1,21 @@
+-- Lines that are cut at their commas alone.
+use Rattle.std.specs.Prelude.{ℕ, ◌≡◌, ◌==◌, ◌&&◌, ◌⊎◌, not, if◌then◌else◌, Bool, true, List, [], ◌∷◌, ◌++◌}
+use Rattle.std.specs.List.{list_all}
+
+-- a byte that means nothing but itself or a comma: no line feed, carriage return or quote, and none that begins a byte
+-- order mark
+abbrev pub is_plain_byte : ℕ → Bool
+is_plain_byte b = not (b == 10) && not (b == 13) && not (b == 34) && not (b == 239)
+
+abbrev pub is_plain : List ℕ → Bool
+is_plain body = list_all is_plain_byte body
+
+-- a plain line, which nothing ends, a line feed, or a carriage return and a line feed
+pub record IsPlainLine (line body : List ℕ) : Type 0 where
+  pub plain : is_plain body ≡ true
+  pub ends : (line ≡ body) ⊎ (line ≡ body ++ (10 ∷ [])) ⊎ (line ≡ body ++ (13 ∷ 10 ∷ []))
+
+-- the fields between the commas; the first of them has begun
+unfoldable pub cells : List ℕ → List ℕ → List (List ℕ)
+cells begun [] = begun ∷ []
+cells begun (b ∷ bs) = if b == 44 then begun ∷ cells [] bs else cells (begun ++ (b ∷ [])) bs

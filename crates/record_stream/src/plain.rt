@@ -1,0 +1,43 @@
+//! Lines that mean nothing to a reader of records but by their commas are cut without one.
+ghost use Rattle.std.specs.Prelude.{◌≡◌, [], IfOk, IfSome};
+ghost use Rattle.csv.specs.Records.{fields_of};
+ghost use Rattle.record_stream.specs.Plain as spec;
+
+use csv::ByteRecord;
+use std::alloc::{AllocError, Global};
+
+/// Whether bytes mean nothing but themselves and commas.
+fn is_plain(body: &[u8]) -> bool
+    ensures { result ≡ spec.is_plain body.now }
+{
+    body.iter()
+        .all(|b| *b != b'\n' && *b != b'\r' && *b != b'"' && *b != 0xEF)
+}
+
+/// A plain line without what ends it.
+pub fn plain_body(line: &[u8]) -> Option<&[u8]>
+    ensures { IfSome result (λ body. spec.IsPlainLine line.now body.now) }
+{
+    let body = match line {
+        [body @ .., b'\r', b'\n'] => body,
+        [body @ .., b'\n'] => body,
+        _ => line,
+    };
+    if is_plain(body) { Some(body) } else { None }
+}
+
+/// The record of the fields between the commas.
+pub fn split_at_commas(alloc: Global, body: &[u8]) -> Result<ByteRecord, AllocError>
+    ensures { IfOk result (λ row. fields_of row ≡ spec.cells [] body.now) }
+{
+    let mut row = ByteRecord::new(alloc);
+    let mut start = 0;
+    for (i, byte) in body.iter().enumerate() {
+        if *byte == b',' {
+            row.push_field(&body[start..i])?;
+            start = i + 1;
+        }
+    }
+    row.push_field(&body[start..])?;
+    Ok(row)
+}
