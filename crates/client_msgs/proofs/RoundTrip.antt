@@ -18,7 +18,8 @@ use Rattle.svr_base.specs.declared.message.Request.TheVariants as requests
 use Rattle.svr_base.specs.declared.message.Response.{Response}
 use Rattle.svr_base.specs.declared.message.Response.TheVariants as responses
 use Rattle.client_msgs.specs.Canonical.{canonical_request, canonical_response}
-use Rattle.client_msgs.specs.Sizes.{size_fault, IsValid, FitsRequest, FitsResponse}
+use Rattle.svr_base.specs.Sizes.{IsValid}
+use Rattle.client_msgs.specs.Sizes.{size_fault, FitsRequest, FitsResponse}
 use Rattle.client_msgs.proofs.SizesLemmas.{size_fault-none}
 use Rattle.client_msgs.specs.Reading.{request_from, if_sized, sized, request_in, request_of, response_from, response_in, response_of}
 

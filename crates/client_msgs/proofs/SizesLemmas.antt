@@ -7,7 +7,8 @@ use Rattle.svr_base.specs.declared.message.Part.{Part}
 use Rattle.svr_base.specs.declared.message.Part.TheVariants.{Secret, Pin, Tries}
 use Rattle.svr_base.specs.declared.message.Request.{Request}
 use Rattle.svr_base.specs.declared.message.Request.TheVariants.{Backup, Restore, Delete, Expose}
-use Rattle.client_msgs.specs.Sizes.{outside, pin_fault, tries_fault, size_fault, IsValid, FitsRequest}
+use Rattle.svr_base.specs.Sizes.{IsValid}
+use Rattle.client_msgs.specs.Sizes.{outside, pin_fault, tries_fault, size_fault, FitsRequest}
 
 outside-none : (part : Part) (least most n : ℕ) → least ≤ n → n ≤ most → outside part least most n ≡ None
 outside-none part least most n low high = cond-true (nat_le least n && nat_le n most) None (Some (part, n)) (and_from _ _ (le-leb least n low) (le-leb n most high))

@@ -1,5 +1,5 @@
 -- The sizes of a request, and of a response.
-use Rattle.std.specs.Prelude.{◌≡◌, ℕ, ◌<◌, ◌≤◌, ◌^◌, ⊤, ◌&&◌, nat_le, List, length, Option, None, Some, if◌then◌else◌}
+use Rattle.std.specs.Prelude.{◌≡◌, ℕ, ◌<◌, ◌^◌, ⊤, ◌&&◌, nat_le, List, length, Option, None, Some, if◌then◌else◌}
 use Rattle.std.specs.Option.{option_or}
 use Rattle.svr_base.specs.declared.message.Request.{Request}
 use Rattle.svr_base.specs.declared.message.Request.TheVariants.{Backup, Restore, Delete, Expose}
@@ -28,21 +28,6 @@ size_fault (Backup secret pin tries) = option_or (secret_fault secret) (option_o
 size_fault (Restore pin) = pin_fault pin
 size_fault Delete = None
 size_fault (Expose secret) = secret_fault secret
-
--- a secret has 16 to 48 bytes
-abbrev pub IsSecret : List ℕ → Type 0
-IsSecret secret = (16 ≤ length secret) × (length secret ≤ 48)
-
--- from 1 to 255 tries
-abbrev pub AreTries : ℕ → Type 0
-AreTries tries = (1 ≤ tries) × (tries ≤ 255)
-
--- each size of the request is in its range, where its pin is of 32 bytes
-abbrev pub IsValid : Request → Type 0
-IsValid (Backup secret pin tries) = IsSecret secret × AreTries tries
-IsValid (Restore pin) = ⊤
-IsValid Delete = ⊤
-IsValid (Expose secret) = IsSecret secret
 
 -- What the types say of each value that a program holds, for laws that range over all lists and numbers: a
 -- pin of 32 bytes, numbers of 32 bits, and fewer than 2^63 bytes.

@@ -2,7 +2,8 @@
 
 ghost use Rattle.std.specs.Prelude.{◌≡◌, ◌↔◌, length, IsOk};
 ghost use Rattle.std.specs.Result.{result_err};
-ghost use Rattle.client_msgs.specs.Sizes.{size_fault, IsValid, tries_fault, outside};
+ghost use Rattle.svr_base.specs.Sizes.{IsValid};
+ghost use Rattle.client_msgs.specs.Sizes.{size_fault, tries_fault, outside};
 
 use svr_base::{Part, Request};
 

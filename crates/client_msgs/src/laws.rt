@@ -5,7 +5,8 @@ ghost use Rattle.svr_base.specs.declared.message.Request.{Request};
 ghost use Rattle.svr_base.specs.declared.message.Response.{Response};
 ghost use Rattle.client_msgs.specs.Canonical.{canonical_request, canonical_response};
 ghost use Rattle.client_msgs.specs.Reading.{request_of, response_of};
-ghost use Rattle.client_msgs.specs.Sizes.{IsValid, FitsRequest, FitsResponse};
+ghost use Rattle.svr_base.specs.Sizes.{IsValid};
+ghost use Rattle.client_msgs.specs.Sizes.{FitsRequest, FitsResponse};
 
 /// The canonical bytes of a valid request stand for that request.
 pub fn requests_are_read_again()

@@ -3,7 +3,7 @@
 ghost use Rattle.std.specs.Prelude.{◌≡◌, ◌++◌, ◌≤◌, IfOk, OnOk};
 ghost use Rattle.proto_wire.specs.Written.{message_field};
 ghost use Rattle.client_msgs.specs.Canonical.{canonical_request, request_number, request_fields, canonical_response, response_number, response_fields};
-ghost use Rattle.client_msgs.specs.Sizes.{IsValid};
+ghost use Rattle.svr_base.specs.Sizes.{IsValid};
 
 use proto_wire::FieldWriter;
 use std::alloc::Global;

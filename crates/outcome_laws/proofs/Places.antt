@@ -19,7 +19,7 @@ use Rattle.svr_base.specs.declared.message.Request.TheVariants.{Backup, Restore,
 use Rattle.client_msgs.specs.Reading.{if_sized, request_from, request_in, request_of}
 use Rattle.client_msgs.specs.Sizes.{outside, secret_fault, pin_fault, tries_fault, size_fault}
 use Rattle.client_msgs.specs.declared.fault.RequestFault.{RequestFault}
-use Rattle.record_table.specs.Valid.{IsSecret, IsValid}
+use Rattle.svr_base.specs.Sizes.{IsSecret, IsValid}
 use Rattle.record_table.specs.Places.{ClientAsk, Places, fold_places, ask_at, reply_at}
 use Rattle.record_table.specs.Rules.{apply}
 use Rattle.record_table.specs.Laws.{AreValid}

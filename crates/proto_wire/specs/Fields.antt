@@ -61,10 +61,13 @@ pub record Sequence : Type 0 where
 abbrev pub nothing : Sequence
 nothing = record { fields = []; fault = None }
 
+abbrev pub field_before : Field → Sequence → Sequence
+field_before f rest = record { fields = f ∷ rest.fields; fault = rest.fault }
+
 -- a field and what comes behind it, or a fault, behind which nothing comes
 abbrev pub then_more : Result Field WireFault → (Field → Sequence) → Sequence
 then_more (Err e) more = record { fields = []; fault = Some e }
-then_more (Ok f) more = record { fields = f ∷ (more f).fields; fault = (more f).fault }
+then_more (Ok f) more = field_before f (more f)
 
 -- The sequence of bytes that stand at an offset, the first so many of which still belong to the field
 -- before them.

@@ -76,6 +76,10 @@ run_so_far (Some (last, fs)) number = if last == number then fs else []
 abbrev pub member_fault : (low high : ℕ) → Field → Option WireFault
 member_fault low high f = if is_member low high f then (embedded f).fault else None
 
--- the first fault in the order of the bytes: inside a member, where it stands, or else of the message's own fields
+-- the first fault in the order of the bytes: inside a field, where it stands, or else of the message's own fields
+abbrev pub first_fault_in : (inside : Field → Option WireFault) → Sequence → Option WireFault
+first_fault_in inside s = slice_get (filter_map inside s.fields ++ option_to_list s.fault) 0
+
+-- the same where the members of the oneof are read inside
 abbrev pub first_fault : (low high : ℕ) → Sequence → Option WireFault
-first_fault low high s = slice_get (filter_map (member_fault low high) s.fields ++ option_to_list s.fault) 0
+first_fault low high s = first_fault_in (member_fault low high) s

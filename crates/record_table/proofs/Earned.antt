@@ -15,7 +15,7 @@ use Rattle.svr_base.specs.declared.message.Reply.{Reply}
 use Rattle.svr_base.specs.declared.message.Reply.TheVariants.{Applied, Stale, TableFull}
 use Rattle.record_table.specs.declared.status.TheConstants.{OK, MISSING, ERROR}
 use Rattle.record_table.specs.Rules.{act, after_guess, after_wrong_guess}
-use Rattle.record_table.specs.Valid.{IsValid}
+use Rattle.svr_base.specs.Sizes.{IsValid}
 use Rattle.record_table.specs.Places.{ClientAsk, Places, fold_places, ask_at, reply_at, is_ask_of, is_mismatch, IsApplied, ActsAs, wrong_guesses}
 use Rattle.record_table.specs.Laws.{AreValid, NoBackup, NoDelete, Earned, GuessesEnd, DataIsEarned, record_of}
 use Rattle.record_table.proofs.Clients.{client_eq-self}

@@ -21,7 +21,8 @@ use Rattle.record_table.specs.declared.change.Change.{Change}
 use Rattle.record_table.specs.declared.change.Change.TheVariants.{Keep}
 use Rattle.record_table.specs.Changes.{kept_after, IsOutcome}
 use Rattle.record_table.specs.Rules.{act, after_guess, after_wrong_guess}
-use Rattle.record_table.specs.Valid.{IsValid, IsValidRecord, IsValidRow, IsSound}
+use Rattle.svr_base.specs.Sizes.{IsValid}
+use Rattle.record_table.specs.Valid.{IsValidRecord, IsValidRow, IsSound}
 use Rattle.record_table.specs.Placed.{IsRowAt}
 use Rattle.record_table.proofs.Rows.{row_of-client}
 use Rattle.record_table.proofs.Placed.{put_row-at, IsRising-put}

@@ -8,7 +8,7 @@ use Rattle.svr_base.specs.declared.message.Response.TheVariants.{Restore as Rest
 use Rattle.svr_base.specs.declared.message.Reply.TheVariants.{Applied}
 use Rattle.record_table.specs.declared.status.TheConstants.{OK}
 use Rattle.record_table.specs.Table.{RecordTable, row_of, kept_in}
-use Rattle.record_table.specs.Valid.{IsValid}
+use Rattle.svr_base.specs.Sizes.{IsValid}
 use Rattle.record_table.specs.Places.{ClientAsk, Places, fold_places, ask_at, reply_at, Acts, ActsAs, wrong_guesses}
 
 -- the client's record, if there is one

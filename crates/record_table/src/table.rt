@@ -34,7 +34,8 @@ impl<T: RowStore> Model for TableOver<T> {
 impl<T: RowStore> TableOver<T> {
     ghost use Rattle.std.specs.Prelude.{◌≡◌, ◌≤◌, IsNone, length, take, drop, IfOk, OnOk, OnErr, option_copied, if◌then◌else◌};
     ghost use Rattle.record_table.specs.Table.{empty_table, row_of, can_add, with_row};
-    ghost use Rattle.record_table.specs.Valid.{IsValid, IsValidRow, IsSound};
+    ghost use Rattle.svr_base.specs.Sizes.{IsValid};
+    ghost use Rattle.record_table.specs.Valid.{IsValidRow, IsSound};
     ghost use Rattle.record_table.specs.Rules.{apply, ask_unknown};
 
     /// A table of this limit in which no client is known.

@@ -1,6 +1,7 @@
 //! Each public call on its happy path.
 ghost use Rattle.std.specs.Prelude.{IfOk};
-ghost use Rattle.record_table.specs.Valid.{IsValid, IsValidRow};
+ghost use Rattle.svr_base.specs.Sizes.{IsValid};
+ghost use Rattle.record_table.specs.Valid.{IsValidRow};
 
 use crate::change::{Change, change_row};
 use crate::sorted::SortedRows;

@@ -6,7 +6,8 @@ use Rattle.svr_base.specs.declared.batch.Refusal.TheVariants.{NotLeader, ChangeP
 use Rattle.group_quorum.specs.Conf.{Conf}
 use Rattle.group_quorum.specs.Voters.{is_in, insert_rising}
 use Rattle.group_quorum.specs.declared.TheConstants.{MAX_VOTERS}
-use Rattle.replica_model.specs.declared.TheConstants.{TOP, MAX_LEARNERS}
+use Rattle.svr_base.specs.declared.limits.TheConstants.{TOP}
+use Rattle.replica_model.specs.declared.TheConstants.{MAX_LEARNERS}
 use Rattle.replica_model.specs.Path.{Link}
 use Rattle.replica_model.specs.Configs.{conf_index}
 use Rattle.replica_model.specs.Keyed.{put}

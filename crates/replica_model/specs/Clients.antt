@@ -12,7 +12,8 @@ use Rattle.client_msgs.specs.declared.fault.RequestFault.{RequestFault}
 use Rattle.client_msgs.specs.declared.fault.RequestFault.TheVariants as faults
 use Rattle.client_msgs.specs.Reading.{request_of}
 use Rattle.client_msgs.specs.Canonical.{canonical_request}
-use Rattle.replica_model.specs.declared.TheConstants.{TOP, MAX_OPEN}
+use Rattle.svr_base.specs.declared.limits.TheConstants.{TOP}
+use Rattle.replica_model.specs.declared.TheConstants.{MAX_OPEN}
 use Rattle.replica_model.specs.Replica.{Role, Leader, Replica}
 use Rattle.replica_model.specs.Call.{Call, still, answers}
 use Rattle.replica_model.specs.Raise.{pushed, raise_and_send}

@@ -1,5 +1,5 @@
 -- The record table of a path: a fold over its entries, and what each place replies.
-use Rattle.std.specs.Prelude.{◌≡◌, ℕ, map, Option, Some, None, Result, Ok, Err, All}
+use Rattle.std.specs.Prelude.{ℕ, map, Option, Some, None, Result, Ok, Err, All}
 use Rattle.svr_base.specs.declared.ids.ClientId.{ClientId}
 use Rattle.svr_base.specs.declared.entry.Body.{Body}
 use Rattle.svr_base.specs.declared.entry.Body.TheVariants.{Noop, Ask, Members}
@@ -7,8 +7,7 @@ use Rattle.svr_base.specs.declared.message.Request.{Request}
 use Rattle.svr_base.specs.declared.message.Reply.{Reply}
 use Rattle.client_msgs.specs.declared.fault.RequestFault.{RequestFault}
 use Rattle.client_msgs.specs.Reading.{request_of}
-use Rattle.client_msgs.specs.Canonical.{canonical_request}
-use Rattle.client_msgs.specs.Sizes.{IsValid}
+use Rattle.client_msgs.specs.Strict.{IsCanonical}
 use Rattle.record_table.specs.Table.{RecordTable}
 use Rattle.record_table.specs.Places.{ClientAsk, Places, fold_places, reply_at}
 use Rattle.replica_model.specs.Path.{Path}
@@ -37,11 +36,11 @@ abbrev pub reply_of : ℕ → Path → ℕ → Option Reply
 reply_of limit p i = reply_at limit (places_of p) i
 
 -- the request of an Ask is the canonical bytes of a valid request
-abbrev pub IsCanonical : Body → Type 0
-IsCanonical Noop = Unit {0}
-IsCanonical (Ask client number request) = (r : Request) × (IsValid r × (request ≡ canonical_request r))
-IsCanonical (Members margin voters) = Unit {0}
+abbrev pub IsCanonicalBody : Body → Type 0
+IsCanonicalBody Noop = Unit {0}
+IsCanonicalBody (Ask client number request) = IsCanonical request
+IsCanonicalBody (Members margin voters) = Unit {0}
 
 -- the same of each entry
 abbrev pub AllCanonical : Path → Type 0
-AllCanonical p = All (λ e. IsCanonical e.body) p
+AllCanonical p = All (λ e. IsCanonicalBody e.body) p

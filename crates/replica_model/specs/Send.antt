@@ -4,7 +4,8 @@ use Rattle.svr_base.specs.declared.entry.Hash.{Hash}
 use Rattle.svr_base.specs.declared.peer.PeerMsg.{PeerMsg}
 use Rattle.svr_base.specs.declared.peer.PeerMsg.TheVariants.{Append}
 use Rattle.replica_model.specs.declared.Progress.{Progress}
-use Rattle.replica_model.specs.declared.TheConstants.{MAX_ENTRIES, KEPT_BELOW}
+use Rattle.svr_base.specs.declared.limits.TheConstants.{MAX_ENTRIES}
+use Rattle.replica_model.specs.declared.TheConstants.{KEPT_BELOW}
 use Rattle.replica_model.specs.Path.{Path, Link, point}
 use Rattle.replica_model.specs.Configs.{conf_index}
 use Rattle.replica_model.specs.Keyed.{has}

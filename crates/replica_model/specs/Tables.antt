@@ -6,7 +6,7 @@ use Rattle.svr_base.specs.declared.peer.TablePart.{TablePart}
 use Rattle.svr_base.specs.declared.peer.PeerMsg.{PeerMsg}
 use Rattle.svr_base.specs.declared.peer.PeerMsg.TheVariants.{Rejected, Part, PartTaken}
 use Rattle.group_quorum.specs.Voters.{is_in}
-use Rattle.replica_model.specs.declared.TheConstants.{ROWS_PER_PART}
+use Rattle.svr_base.specs.declared.limits.TheConstants.{ROWS_PER_PART}
 use Rattle.replica_model.specs.Path.{Path, Link, end_point, same_point, last_term}
 use Rattle.replica_model.specs.Configs.{conf, conf_index}
 use Rattle.replica_model.specs.Folds.{fold_of}

@@ -3,7 +3,7 @@ use Rattle.std.specs.Prelude.{ℕ, ◌+◌, Bool, true, false, cond, not, ◌&&�
 use Rattle.svr_base.specs.declared.entry.Body.TheVariants.{Noop}
 use Rattle.svr_base.specs.declared.peer.PeerMsg.TheVariants.{AskVote, Vote}
 use Rattle.group_quorum.specs.Voters.{is_in}
-use Rattle.replica_model.specs.declared.TheConstants.{TOP}
+use Rattle.svr_base.specs.declared.limits.TheConstants.{TOP}
 use Rattle.replica_model.specs.Path.{Path, last_term}
 use Rattle.replica_model.specs.Enough.{met_by_both}
 use Rattle.replica_model.specs.Message.{plain}

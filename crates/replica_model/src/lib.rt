@@ -5,18 +5,14 @@
 
 ghost use Rattle.replica_model.specs.Laws.{ChainFollows, ConfFollows, GreatestIsGreatest, FoldFollows, BytesTellBodies};
 
-/// The greatest index and the greatest term.
-pub const TOP: u64 = 4_611_686_018_427_387_904;
+pub use svr_base::{MAX_ENTRIES, ROWS_PER_PART, TOP};
+
 /// The entries above the committed index at which a leader is busy.
 pub const MAX_OPEN: u64 = 1_024;
-/// The entries of one append.
-pub const MAX_ENTRIES: u64 = 16;
 /// The entries below the committed index whose hashes are kept.
 pub const KEPT_BELOW: u64 = 4_096;
 /// The learners of one leader.
 pub const MAX_LEARNERS: u32 = 31;
-/// The rows of one part of a table.
-pub const ROWS_PER_PART: u32 = 32;
 
 /// What a leader knows of one peer.
 #[derive(Clone, Copy, Debug, PartialEq, Eq)]

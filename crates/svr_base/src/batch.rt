@@ -23,7 +23,7 @@ pub struct Batch {
     pub answers: AnswerList,
     /// The messages to replicas.
     pub sent: SentList,
-    /// The number of the state that was saved, from 0.
+    /// The number of the state that was saved, from 1: state 0 is the first one, which no call saves.
     pub saved: Option<u32>,
     /// Why nothing was done.
     pub refused: Option<Refusal>,

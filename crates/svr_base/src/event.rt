@@ -42,7 +42,7 @@ pub enum Event {
     Save {
         replica: ReplicaId,
     },
-    /// The replica's saved state of this number, from 0, is put back.
+    /// The replica's saved state of this number is put back; 0 is its first state.
     Roll {
         replica: ReplicaId,
         state: u32,

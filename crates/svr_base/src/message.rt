@@ -72,7 +72,7 @@ pub enum Answer {
     Outcome(u64, Reply),
     /// This replica leads as far as is known; 0 where none is.
     NotLeader(ReplicaId),
-    /// A request is on its way already, or the log is full: the last index.
+    /// The leader takes no entry now: the number of its entries that have not committed.
     Busy(u64),
     /// It is not known whether the request commits: the index, the hash kept there and the hash offered.
     Undecided(u64, Hash, Hash),
@@ -118,7 +118,7 @@ impl TryCopy for Answer {
         Ok(match self {
             Answer::Outcome(index, reply) => Answer::Outcome(*index, reply.copy(alloc)?),
             Answer::NotLeader(leader) => Answer::NotLeader(*leader),
-            Answer::Busy(last) => Answer::Busy(*last),
+            Answer::Busy(open) => Answer::Busy(*open),
             Answer::Undecided(index, kept, offered) => Answer::Undecided(*index, *kept, *offered),
             Answer::Malformed(offset) => Answer::Malformed(*offset),
             Answer::Invalid(part, size) => Answer::Invalid(*part, *size),

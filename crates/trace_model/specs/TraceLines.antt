@@ -16,14 +16,12 @@ use Rattle.svr_base.specs.declared.message.Answer.{Answer}
 use Rattle.svr_base.specs.declared.message.Answer.TheVariants as answer
 use Rattle.svr_base.specs.declared.message.Reply.{Reply}
 use Rattle.svr_base.specs.declared.message.Reply.TheVariants as reply
-use Rattle.svr_base.specs.declared.message.Request.{Request}
 use Rattle.svr_base.specs.declared.peer.PeerMsg.{PeerMsg}
 use Rattle.svr_base.specs.declared.peer.PeerMsg.TheVariants as peer
 use Rattle.svr_base.specs.declared.want.Report.{Report}
 use Rattle.svr_base.specs.declared.want.Report.TheVariants as report
-use Rattle.client_msgs.specs.Canonical.{canonical_request}
-use Rattle.client_msgs.specs.Sizes.{IsValid}
-use Rattle.replica_model.specs.declared.TheConstants.{TOP}
+use Rattle.client_msgs.specs.Strict.{IsCanonical}
+use Rattle.svr_base.specs.declared.limits.TheConstants.{TOP}
 use Rattle.schedule_model.specs.Reading.{RecordFault, max_u32, max_u64}
 use Rattle.schedule_model.specs.Records.{event_of}
 use Rattle.schedule_model.specs.Lines.{Line, GroupRefusal, NoMessage, Lost, NotRunning, AlreadyStarted, NoSuchState, ClientBusy, WrongSize, NumbersOut, NothingInFlight, NoAnswer, NotYours, Quantity, record_fields, event_line, refused_line, refusal_fields, group_refusal_fields, lead_line, members_line, halt_line, taken_line, commit_line, answer_line, sent_line, saved_line, client_line, log_line, rollbacks_line, end_line, stopped_at_record, stopped_at_limit, stopped_at_frame}
@@ -66,10 +64,6 @@ is_rising (v ∷ w ∷ vs) = nat_lt v w && is_rising (w ∷ vs)
 
 abbrev pub is_members : ℕ → List ℕ → Bool
 is_members margin voters = nat_le margin 15 && (nat_le 1 (length voters) && (is_rising voters && is_none (fault_of margin voters)))
-
--- the request bytes are the canonical ones of a valid request
-abbrev pub IsCanonical : List ℕ → Type 0
-IsCanonical bytes = (request : Request) × IsValid request × (bytes ≡ canonical_request request)
 
 abbrev pub IsBody : Body → Type 0
 IsBody Noop = Unit {0}
