@@ -24,11 +24,20 @@ pub fn first() -> Hash
 pub fn link(prev: &Hash, index: u64, term: u64, kind: u8, body: &[u8]) -> Hash
     ensures { result ≡ sha256 (link_bytes prev.now index term kind body.now) }
 {
+    link_parts(prev, index, term, kind, body, &[])
+}
+
+/// The same where the body comes in two pieces, so that what already lies in memory is not copied beside what is
+/// written before it.
+pub fn link_parts(prev: &Hash, index: u64, term: u64, kind: u8, start: &[u8], rest: &[u8]) -> Hash
+    ensures { result ≡ sha256 (link_bytes prev.now index term kind (start.now ++ rest.now)) }
+{
     let head = head_bytes(index, term, kind);
     let mut hasher = Sha256::new();
     hasher.update(prev);
     hasher.update(&head);
-    hasher.update(body);
+    hasher.update(start);
+    hasher.update(rest);
     hasher.finalize()
 }
 
@@ -67,14 +76,10 @@ mod tests {
             0xf2, 0xf3, 0xaf, 0xd2,
         ];
         assert_eq!(rt; link(&first(), 1, 1, 0, &[]), empty_body);
+        let body = b"\x01\x03\0\0\0\x01\0\0\0\x02\0\0\xff\xff";
+        assert_eq!(rt; link(&first(), 1, 2, 2, body), members);
         assert_eq!(rt;
-            link(
-                &first(),
-                1,
-                2,
-                2,
-                b"\x01\x03\0\0\0\x01\0\0\0\x02\0\0\xff\xff"
-            ),
+            link_parts(&first(), 1, 2, 2, &body[..2], &body[2..]),
             members
         );
     }
