@@ -28,7 +28,7 @@ use Rattle.group_model.specs.Run.{Enclaves, World, moves, newly, start_enclave, 
 use Rattle.group_model.specs.Log.{outcomes_in}
 use Rattle.group_model.specs.Reports.{Names, IsOnlySaid}
 use Rattle.log_laws.proofs.Moving.{all_get}
-use Rattle.report_laws.proofs.Kept.{InputSaid, Listed, HeardKept, Follows, call_follows, wanted_follows, heard_follows, hearing_kept, say_follows}
+use Rattle.report_laws.proofs.Kept.{InputSaid, Listed, Follows, call_follows, wanted_follows, heard_follows, stays_follows, say_follows}
 
 same_client : (a b : ClientId) → is_client a b ≡ true → a ≡ b
 same_client a b h = let bytes : a.0 ≡ b.0 = (bytes_eq-Decides a.0 b.0).0 h in ap (λ bs. record { 0 = bs }) bytes
@@ -151,21 +151,18 @@ module _ (c : ClientId) (link : Link) (w g : World) (k : WorldFollows c g) (same
   hears_with_goes d a its listed None is = k
   hears_with_goes d a its listed (Some core) is =
       put_follows d (heard core a.number a.answer).0 (h ∷ g.hearings)
-      (λ mine only.
-      let after = heard_follows c core g.answers g.hearings g.field.history (now mine only) a.number a.answer in
-      record { fits = after.fits; said = after.said; listed = after.listed; heard = (λ here. kept mine only, after.heard) })
-      (λ not only. let old = k only in record { fits = old.fits; said = old.said; listed = old.listed; heard = (λ here. absurd (differ here not), old.heard) })
+      (λ mine only. subst (λ e. Follows c (heard core a.number a.answer).0 g.answers (hearing e ∷ g.hearings) g.field.history) (sym mine)
+      (heard_follows c core g.answers g.hearings g.field.history (now mine only) a (its ∙ mine) (listed only)))
+      (λ not only. stays_follows c (core_for g.cores c) g.answers g.hearings g.field.history (k only) h (λ here. absurd (differ here not)))
     where
+      hearing : ClientId → Hearing
+      hearing e = record { client = e; flight = core.flight; answered = a; report = (heard core a.number a.answer).1 }
+
       h : Hearing
-      h = record { client = d; flight = core.flight; answered = a; report = (heard core a.number a.answer).1 }
+      h = hearing d
 
       now : d ≡ c → IsOnlySaid g c → Follows c core g.answers g.hearings g.field.history
       now mine only = subst (λ o. Follows c (unwrap_or o new_core) g.answers g.hearings g.field.history) (subst (λ e. core_of g.cores e ≡ Some core) mine is) (k only)
-
-      kept : d ≡ c → IsOnlySaid g c → HeardKept c (outcomes_in g.field.history) (record { client = d; flight = core.flight; answered = a; report = (heard core a.number a.answer).1 })
-      kept mine only =
-          let x = hearing_kept c core g.answers g.hearings g.field.history (now mine only) a (its ∙ mine) (listed only) in
-          record { before = x.before; flight_is = x.flight_is; report_is = x.report_is; fits = x.fits; given = x.given }
 
       differ : d ≡ c → is_client d c ≡ false → ⊥
       differ mine not = let t : is_client d c ≡ true = subst (λ e. is_client e c ≡ true) (sym mine) (client_self c) in cc
@@ -225,4 +222,4 @@ events_follow c link (e ∷ events) w k =
 
 -- in every run
 pub run_follows : (c : ClientId) (link : Link) (events : List Event) → WorldFollows c (run link events)
-run_follows c link events = events_follow c link events empty_world (λ only. record { fits = tt; said = tt; listed = tt; heard = tt })
+run_follows c link events = events_follow c link events empty_world (λ only. record { fits = tt; said = tt; listed = tt; heard = tt; began = tt })

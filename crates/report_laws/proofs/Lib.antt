@@ -1,3 +1,7 @@
+pub mod Meanings
 pub mod Kept
 pub mod Events
-pub mod Grounds
+pub mod Rows
+pub mod Stores
+pub mod Placed
+pub mod Hearings

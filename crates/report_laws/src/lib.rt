@@ -1,17 +1,18 @@
 //! What a client's reports say of the one log of a run.
-//!
-//! Not there: that a recovered secret was earned with the want's own PIN, and that a stored one stands in the table.
 #![tactic(auto)]
 
-ghost use Rattle.report_laws.specs.Grounded.{ReportsAreGrounded};
+ghost use Rattle.group_model.specs.Reports.{ReportsFollow};
 
+use client_msgs::requests_are_read_again;
 use outcome_laws::one_log_laws;
 
-/// The law that in every run within the rollback bound and without a collision each report of a client that no ask
-/// names, other than Undecided, is the meaning of the log's reply at the place that the client heard of. It only names
-/// the laws of the log.
-pub fn reports_are_grounded()
-    ensures { ReportsAreGrounded }
+/// The law that in every run within the rollback bound and without a collision the reports of a client that no ask
+/// names follow the log. Stored: the client heard of its backup and later of its expose, and there the record stands
+/// with all its tries. Recovered: the secret was earned, with the want's PIN. Any other report but Undecided is the
+/// meaning of the log's reply at the place that the client heard of. It only names the laws below.
+pub fn reports_follow()
+    ensures { ReportsFollow }
 {
+    requests_are_read_again();
     one_log_laws();
 }

@@ -1,0 +1,6 @@
+use Rattle.report_laws.proofs.Hearings.{reports_of}
+use Rattle.report_laws.proofs.reports_follow.Goals as goal
+
+pub returns : goal.returns
+returns c link events client bound none only =
+    reports_of c.requests_are_read_again.ensures link events client (c.one_log_laws.ensures link events bound none) only
