@@ -1,0 +1,117 @@
+-- A committed index that rises is told, and the end of a call tells no more.
+use Rattle.std.proofs.Common.{◌≡◌, ℕ, ◌+◌, ◌-◌, ◌<◌, ◌≤◌, Bool, not, ◌&&◌, nat_le, max, inl, inr, Option, Some, None, List, [], ◌∷◌, ◌++◌, length, take, drop, map, refl, sym, subst, arith}
+use Rattle.std.specs.Prelude.{fold}
+use Rattle.std.proofs.lemmas.Bool.{cond_both, cases_lt, cases_eq}
+use Rattle.std.proofs.lemmas.List.{length-take, length-drop}
+use Rattle.std.proofs.lemmas.Grind.{fold-append}
+use Rattle.group_quorum.specs.Conf.{Conf}
+use Rattle.svr_base.specs.declared.entry.Hash.{Hash}
+use Rattle.svr_base.specs.declared.entry.LogEntry.{LogEntry}
+use Rattle.replica_model.specs.Path.{Path, Link}
+use Rattle.replica_model.specs.Configs.{conf_index}
+use Rattle.replica_model.specs.Message.{Message}
+use Rattle.replica_model.specs.Replica.{Role, Learner, Follower, Candidate, Leader, Leading, Replica}
+use Rattle.replica_model.specs.Enough.{greatest_upto}
+use Rattle.replica_model.specs.Peers.{is_voter}
+use Rattle.replica_model.specs.Call.{Call, moment}
+use Rattle.replica_model.specs.Raise.{numbered_from, commit_to, may_promise, may_commit, promise_raised, promise_index, commit_index, raise}
+use Rattle.replica_model.specs.Send.{can_append, appended_to, send_append, send_appends, stepped_down, ended}
+use Rattle.replica_model.proofs.Greatest.{greatest}
+use Rattle.group_model.specs.Group.{committed_in, conf_told, taken_index}
+use Rattle.log_laws.proofs.Ending.{all-append}
+use Rattle.closing_laws.proofs.Tells.{AllTold, SendingsTold, Tells, TellsCall}
+
+-- the greatest index of these and n
+abbrev reach : ℕ → List (ℕ × LogEntry) → ℕ
+reach n commits = fold (λ (n : ℕ) (c : ℕ × LogEntry). max n c.0) n commits
+
+reach_up : (n k : ℕ) (p : Path) → n ≤ reach n (numbered_from k p)
+reach_up n k [] = omega arith
+reach_up n k (e ∷ p) = omega (arith, reach_up (max n k) (k + 1) p)
+
+reach_to : (n k m : ℕ) (p : Path) → n ≤ m → k + length p ≤ m + 1 → reach n (numbered_from k p) ≤ m
+reach_to n k m [] low high = low
+reach_to n k m (e ∷ p) low high = reach_to (max n k) (k + 1) m p (omega arith) (omega arith)
+
+reach_of : (n k : ℕ) (p : Path) → 0 < length p → k + length p ≤ reach n (numbered_from k p) + 1
+reach_of n k [] some = absurd (omega arith)
+reach_of n k (e ∷ []) some = omega arith
+reach_of n k (e ∷ (f ∷ p)) some = omega (arith, reach_of (max n k) (k + 1) (f ∷ p) (omega arith))
+
+greatest_to : (passes : ℕ → Bool) (had top : ℕ) → had ≤ top → greatest_upto passes had top ≤ top
+greatest_to passes had top le =
+    let is = greatest passes had top in
+    elim (cases_eq (greatest_upto passes had top) had) [
+      | inl same ↦ omega (arith, same, le)
+      | inr more ↦ is.within more
+    ]
+
+module _ (seen : ℕ) (confs : List Conf) where
+  -- the committed index rises
+  pub commit_tells : (c : Call) (i : ℕ) → i ≤ c.state.promised → TellsCall seen confs c → TellsCall seen confs (commit_to c i)
+  commit_tells c i upto g =
+      let s : Replica = c.state in
+      let more : Path = drop s.committed (take i s.path) in
+      let long : length more ≡ i - s.committed = omega (arith, length-drop s.committed (take i s.path), length-take i s.path, upto, g.fits) in
+      let same : reach (taken_index c.batch.taken) (c.batch.commits ++ numbered_from (s.committed + 1) more) ≡ reach (committed_in c.batch) (numbered_from (s.committed + 1) more) =
+      fold-append (λ (n : ℕ) (c : ℕ × LogEntry). max n c.0) (taken_index c.batch.taken) c.batch.commits (numbered_from (s.committed + 1) more) in
+      subst (λ reached. Tells seen confs s.path (max s.committed i) s.promised s.role reached (map conf_told c.batch.members) c.sent) (sym same)
+      (record {
+        within = omega (arith, g.within, upto);
+        fits = g.fits;
+        below = elim (cases_lt s.committed i) [
+          | inl rises ↦ omega (arith, rises, long, reach_of (committed_in c.batch) (s.committed + 1) more (omega (arith, long, rises)))
+          | inr stays ↦ omega (arith, stays, g.below, reach_up (committed_in c.batch) (s.committed + 1) more)
+        ];
+        above = reach_to (committed_in c.batch) (s.committed + 1) (max s.committed i) more (omega (arith, g.above)) (omega (arith, long));
+        told = g.told;
+        held = g.held;
+        sendings = g.sendings;
+        named = g.named;
+      })
+
+  pub raise_tells : (c : Call) (l : Leading) → TellsCall seen confs c → TellsCall seen confs (raise c l)
+  raise_tells c l g =
+      let s : Replica = c.state in
+      let raised : Call = moment (promise_raised (moment c) l) in
+      let up : s.promised ≤ promise_index s l = (greatest (may_promise s l) s.promised (length s.path)).at_least in
+      let fits : promise_index s l ≤ length s.path = greatest_to (may_promise s l) s.promised (length s.path) g.fits in
+      let within : s.committed ≤ promise_index s l = omega (arith, g.within, up) in
+      commit_tells raised (commit_index raised.state l) (greatest_to (may_commit raised.state l) s.committed (promise_index s l) within)
+      (record { within = within; fits = fits; below = g.below; above = g.above; told = g.told; held = g.held; sendings = g.sendings; named = g.named })
+
+  -- an append names nothing
+  append_tells : (link : Link) (c : Call) (role : Role) (u : ℕ) → c.state.role ≡ role → TellsCall seen confs c → TellsCall seen confs (send_append link c role u)
+  append_tells link c (Learner taking) u is g = g
+  append_tells link c Follower u is g = g
+  append_tells link c (Candidate votes) u is g = g
+  append_tells link c (Leader l) u is g = cond_both (can_append c.state l u) (appended_to link c l u) c (TellsCall seen confs)
+      (λ b. record {
+        within = g.within;
+        fits = g.fits;
+        below = g.below;
+        above = g.above;
+        told = g.told;
+        held = g.held;
+        sendings = subst (SendingsTold (map conf_told c.batch.members ++ confs)) is g.sendings;
+        named = all-append (λ (m : ℕ × Message). AllTold (map conf_told c.batch.members ++ confs) m.1.names.path) c.sent _ g.named (tt, tt);
+      })
+      (λ b. g)
+
+  appends_tell : (link : Link) (us : List ℕ) (c : Call) → TellsCall seen confs c → TellsCall seen confs (send_appends link c us)
+  appends_tell link [] c g = g
+  appends_tell link (u ∷ us) c g = appends_tell link us (send_append link c c.state.role u) (append_tells link c c.state.role u refl g)
+
+  stopped_tells : (c : Call) (role : Role) → c.state.role ≡ role → TellsCall seen confs c → TellsCall seen confs (record c { state = stepped_down c.state role })
+  stopped_tells c (Learner taking) is g = g
+  stopped_tells c Follower is g = g
+  stopped_tells c (Candidate votes) is g = g
+  stopped_tells c (Leader l) is g = cond_both (not (is_voter c.state) && nat_le (conf_index c.state.path) c.state.committed) (record (c.state) { role = Follower; known = 0 }) c.state (λ s. TellsCall seen confs (record c { state = s }))
+      (λ b. record { within = g.within; fits = g.fits; below = g.below; above = g.above; told = g.told; held = g.held; sendings = tt; named = g.named })
+      (λ b. g)
+
+  pub ended_tells : (link : Link) (c : Call) (halted : Option (ℕ × Hash × Hash)) → TellsCall seen confs c → TellsCall seen confs (ended link c halted)
+  ended_tells link c (Some d) g = g
+  ended_tells link c None g =
+      let sent : Call = send_appends link c c.appends in
+      stopped_tells sent sent.state.role refl (appends_tell link c.appends c g)
