@@ -1,0 +1,3 @@
+pub mod Shadow
+pub mod Events
+pub mod Played
