@@ -1,0 +1,4 @@
+pub mod Past
+pub mod Played
+pub mod Driving
+pub mod Headlines
