@@ -1,0 +1,84 @@
+//! Lines, which are fields joined by commas and ended by a line feed.
+ghost use Rattle.std.specs.Prelude.{◌≡◌, ◌++◌, OnOk, IfOk, decimal};
+ghost use Rattle.schedule_model.specs.Lines as spec;
+ghost use Rattle.schedule_text.specs.Joined.{after_comma};
+
+use crate::fault::RecordFault;
+use itoa::Buffer;
+use std::alloc::{AllocError, Global};
+use svr_base::{Cause, Part};
+
+/// Appends the decimal digits of a number.
+pub fn push_number(line: &mut Vec<u8>, number: u64) -> Result<(), AllocError>
+    ensures { OnOk result (line.new.items ≡ line.old.items ++ decimal number) }
+{
+    let mut buffer = Buffer::new();
+    line.extend_from_slice(buffer.format(number).as_bytes())
+}
+
+/// Appends a comma and a field.
+pub fn push_field(line: &mut Vec<u8>, field: &[u8]) -> Result<(), AllocError>
+    ensures { OnOk result (line.new.items ≡ line.old.items ++ after_comma field.now) }
+{
+    line.reserve(1 + field.len())?;
+    line.push(b',')?;
+    line.extend_from_slice(field)
+}
+
+/// Appends a comma and bytes as lower-case hexadecimal.
+pub fn push_hex(line: &mut Vec<u8>, bytes: &[u8]) -> Result<(), AllocError>
+    ensures { OnOk result (line.new.items ≡ line.old.items ++ after_comma (spec.hex bytes.now)) }
+{
+    let alloc = *line.allocator();
+    let text = hex::encode(alloc, bytes)?;
+    push_field(line, text.as_bytes())
+}
+
+fn cause_word(cause: Cause) -> &'static str
+    ensures { result.now ≡ spec.cause_word cause }
+{
+    match cause {
+        Cause::Word => "word",
+        Cause::Fields => "fields",
+        Cause::NoBegin => "nobegin",
+        Cause::SecondBegin => "secondbegin",
+        Cause::Number => "number",
+        Cause::Range => "range",
+        Cause::Hex => "hex",
+        Cause::TooMany => "toomany",
+        Cause::Double => "double",
+        Cause::TooFew => "toofew",
+    }
+}
+
+/// The word of a part of a request.
+pub fn part_word(part: Part) -> &'static str
+    ensures { result.now ≡ spec.part_word part }
+{
+    match part {
+        Part::Nothing => "nothing",
+        Part::Secret => "data",
+        Part::Pin => "pin",
+        Part::Tries => "tries",
+    }
+}
+
+/// The last line of a text that ends at the record of this number, from 1.
+pub fn record_line(alloc: Global, number: u64, fault: &RecordFault) -> Result<Vec<u8>, AllocError>
+    ensures { IfOk result (λ line. line.items ≡ spec.line_text (spec.stopped_at_record number fault.now)) }
+{
+    let mut line = Vec::from_slice(alloc, b"stopped,schedule,")?;
+    push_number(&mut line, number)?;
+    push_field(&mut line, cause_word(fault.cause()).as_bytes())?;
+    line.push(b',')?;
+    push_number(&mut line, fault.field() as u64)?;
+    line.push(b'\n')?;
+    Ok(line)
+}
+
+/// The last line of a text that ends at the limit of events.
+pub fn limit_line() -> &'static str
+    ensures { result.now ≡ spec.line_text (spec.stopped_at_limit spec.Events) }
+{
+    "stopped,limit,events\n"
+}
