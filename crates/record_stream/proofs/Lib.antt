@@ -1,6 +1,7 @@
 pub mod ReadRecords
 pub mod Courses
 pub mod Cuts
+pub mod Found
 pub mod Faults
 pub mod Endings
 pub mod Pieces

@@ -1,5 +1,5 @@
 //! Bytes come in any pieces; each line is played as soon as it is whole.
-ghost use Rattle.std.specs.Prelude.{◌≡◌, ◌∷◌, ◌+◌, ◌*◌, ◌<◌, ◌≤◌, ◌^◌, [], OnOk, length};
+ghost use Rattle.std.specs.Prelude.{◌≡◌, ◌++◌, ◌+◌, ◌*◌, ◌<◌, ◌≤◌, ◌^◌, [], OnOk, length};
 ghost use Rattle.svr_base.specs.Causes.{HasCauseAt};
 ghost use Rattle.record_stream.specs.Course.{PlaysTo};
 ghost use Rattle.record_stream.specs.Lines as spec;
@@ -7,6 +7,7 @@ ghost use Rattle.record_stream.specs.Lines as spec;
 use crate::plain::{plain_body, split_at_commas};
 use crate::player::{Player, Stop};
 use csv::ReaderBuilder;
+use memchr::memchr;
 use std::alloc::Global;
 use svr_base::Sink;
 
@@ -60,26 +61,26 @@ pub fn play_line<P: Player, K: Sink>(
     player.play(&row, sink)
 }
 
-/// Takes a byte, and plays the line that it ends.
-fn take_byte<P: Player, K: Sink>(
+/// Plays the line that has begun and ends with these bytes. Nothing is copied of a line that had not begun.
+fn take_line<P: Player, K: Sink>(
     alloc: Global,
     player: &mut P,
     pending: &mut Vec<u8>,
-    byte: u8,
+    end: &[u8],
     sink: &mut K,
 ) -> Result<(), Stop<P::Reason>>
-    requires { P.count player.old + length pending.old.items + 2 < 2 ^ 62 }
-    ensures plays { PlaysTo (P.course player.old) (spec.records_after pending.old.items (byte ∷ [])) (P.course player.new) (K.taken sink.old) (K.taken sink.new) result }
-    ensures rest { OnOk result (pending.new.items ≡ spec.last_part pending.old.items (byte ∷ [])) }
-    ensures counted { OnOk result (P.count player.new + 2 * length pending.new.items ≤ P.count player.old + 2 * (length pending.old.items + 1)) }
+    requires { P.count player.old + length pending.old.items + length end.now + 1 < 2 ^ 62 }
+    ensures plays { PlaysTo (P.course player.old) (spec.line_records (pending.old.items ++ end.now)) (P.course player.new) (K.taken sink.old) (K.taken sink.new) result }
+    ensures rest { OnOk result (pending.new.items ≡ []) }
+    ensures counted { OnOk result (P.count player.new ≤ P.count player.old + length pending.old.items + length end.now + 1) }
     ensures cause { HasCauseAt Stop.WriteFault (K.faults sink.old) (K.faults sink.new) result }
 {
-    let Ok(()) = pending.push(byte) else {
+    if pending.is_empty() {
+        return play_line(alloc, player, end, sink);
+    }
+    let Ok(()) = pending.extend_from_slice(end) else {
         return Err(Stop::Memory);
     };
-    if byte != b'\n' {
-        return Ok(());
-    }
     play_line(alloc, player, pending.as_slice(), sink)?;
     pending.clear();
     Ok(())
@@ -99,8 +100,14 @@ pub fn take_piece<P: Player, K: Sink>(
     ensures counted { OnOk result (P.count player.new + 2 * length pending.new.items ≤ P.count player.old + 2 * (length pending.old.items + length piece.now)) }
     ensures cause { HasCauseAt Stop.WriteFault (K.faults sink.old) (K.faults sink.new) result }
 {
-    for byte in piece {
-        take_byte(alloc, player, pending, *byte, sink)?;
+    let mut start = 0;
+    while let Some(at) = memchr(b'\n', &piece[start..]) {
+        let end = start + at + 1;
+        take_line(alloc, player, pending, &piece[start..end], sink)?;
+        start = end;
     }
+    let Ok(()) = pending.extend_from_slice(&piece[start..]) else {
+        return Err(Stop::Memory);
+    };
     Ok(())
 }

@@ -1,17 +1,17 @@
 //! Lines that mean nothing to a reader of records but by their commas are cut without one.
-ghost use Rattle.std.specs.Prelude.{◌≡◌, [], IfOk, IfSome};
+ghost use Rattle.std.specs.Prelude.{◌≡◌, [], true, IsTrue, IfOk, IfSome};
 ghost use Rattle.csv.specs.Records.{fields_of};
 ghost use Rattle.record_stream.specs.Plain as spec;
 
 use csv::ByteRecord;
+use memchr::{memchr, memchr3};
 use std::alloc::{AllocError, Global};
 
 /// Whether bytes mean nothing but themselves and commas.
 fn is_plain(body: &[u8]) -> bool
-    ensures { result ≡ spec.is_plain body.now }
+    ensures { IsTrue result → (spec.is_plain body.now ≡ true) }
 {
-    body.iter()
-        .all(|b| *b != b'\n' && *b != b'\r' && *b != b'"' && *b != 0xEF)
+    memchr3(b'\r', b'"', 0xEF, body).is_none() && memchr(b'\n', body).is_none()
 }
 
 /// A plain line without what ends it.
@@ -32,11 +32,10 @@ pub fn split_at_commas(alloc: Global, body: &[u8]) -> Result<ByteRecord, AllocEr
 {
     let mut row = ByteRecord::new(alloc);
     let mut start = 0;
-    for (i, byte) in body.iter().enumerate() {
-        if *byte == b',' {
-            row.push_field(&body[start..i])?;
-            start = i + 1;
-        }
+    while let Some(at) = memchr(b',', &body[start..]) {
+        let end = start + at;
+        row.push_field(&body[start..end])?;
+        start = end + 1;
     }
     row.push_field(&body[start..])?;
     Ok(row)

@@ -1,53 +1,82 @@
-use Rattle.std.proofs.Common.{arith, sym, ap, ◌∙◌, ◌+◌, ◌++◌, ◌∷◌, [], Err, drop, take, get_or}
+use Rattle.std.proofs.Common.{arith, rules, sym, ap, ◌∙◌, ◌≡◌, ◌+◌, ◌++◌, ◌∷◌, [], Err, true, drop, take, slice_range}
+use Rattle.std.specs.Result.{is_ok}
 use Rattle.std.proofs.KnownBytes.{Appends-nil, Appends-trans}
+use Rattle.std.proofs.lemmas.List.{length-drop, take_rest}
 use Rattle.std.proofs.lemmas.Result.{err_from_is_err_and}
-use Rattle.record_stream.specs.Lines.{last_part, records_after}
-use Rattle.record_stream.proofs.Courses.{goes_none, goes_then, plays_then, stops_in}
-use Rattle.record_stream.proofs.Cuts.{last_part-next, last_part-none, records_after-next, records_after-none, records_after-split}
+use Rattle.record_stream.specs.Lines.{last_part, line_records, records_after}
+use Rattle.record_stream.proofs.Courses.{begins_with, goes_none, goes_then, plays_then, stops_in}
+use Rattle.record_stream.proofs.Cuts.{last_part-none, records_after-none, records_after-split}
 use Rattle.record_stream.proofs.Faults.{cause_passed}
+use Rattle.record_stream.proofs.Found.{end_part, end_records, found_at, found_none, next_part, next_records}
 use Rattle.record_stream.proofs.lines.take_piece.Goals as goal
 
-pub loop-byte-init : goal.loop-byte-init
-loop-byte-init g c = record {
+pub loop-at-init : goal.loop-at-init
+loop-at-init g c = record {
+  within = omega arith;
   so_far = ([], rw (records_after-none c.args.pending.now.items) (goes_none _), Appends-nil _);
   rest = sym (last_part-none c.args.pending.now.items);
   counted = omega arith;
   later = omega arith;
 }
 
-pub take_byte-requires : goal.take_byte-requires
-take_byte-requires g c = omega (arith, c.loop-byte.invariant.counted, c.requires)
-
-pub returns-in_err-take_byte-clause-plays : goal.returns-in_err-take_byte-clause-plays
-returns-in_err-take_byte-clause-plays g c =
+pub returns-in_err-take_line-clause-plays : goal.returns-in_err-take_line-clause-plays
+returns-in_err-take_line-clause-plays g c =
     let p = err_from_is_err_and c.from_residual.result c.from_residual.ensures.1 in
-    let i = c.loop-byte.byte-index in
     let begun = c.args.pending.now.items in
     let piece = c.args.piece.now in
-    let (written, goes, taken) = c.loop-byte.invariant.so_far in
-    let next = plays_then _ _ _ (records_after begun (take i piece)) _ written _ _ _ _ goes taken (rw c.loop-byte.invariant.rest at c.take_byte.ensures.plays) in
-    rw (records_after-split begun piece (i + 1), records_after-next begun piece i (omega arith))
-    (stops_in _ _ _ _ (records_after (last_part begun (take (i + 1) piece)) (drop (i + 1) piece)) _ _ _ _ _ c.in_err-take_byte.was (p.1 ∙ ap Err p.2) next)
+    let start = c.loop-at.start in
+    let at = c.in-Some.at in
+    let (lt, lacks, feed) = found_at 10 (drop start piece) c.memchr.result at (rw (take_rest piece start) at c.memchr.ensures) c.in-Some.is in
+    let (written, goes, taken) = c.loop-at.invariant.so_far in
+    let next = plays_then _ _ _ (records_after begun (take start piece)) (line_records (last_part begun (take start piece) ++ slice_range piece start (start + at + 1)))
+    written _ _ _ _ goes taken (rw c.loop-at.invariant.rest at c.take_line.ensures.plays) in
+    rw (records_after-split begun piece (start + at + 1), next_records begun piece start at lt lacks feed)
+    (stops_in _ _ _ _ (records_after (last_part begun (take (start + at + 1) piece)) (drop (start + at + 1) piece)) _ _ _ _ _ c.in_err-take_line.was (p.1 ∙ ap Err p.2) next)
 
-pub returns-in_err-take_byte-clause-cause : goal.returns-in_err-take_byte-clause-cause
-returns-in_err-take_byte-clause-cause g c =
-    let p = err_from_is_err_and c.from_residual.result c.from_residual.ensures.1 in
-    cause_passed _ _ _ _ _ _ _ c.loop-byte.invariant.later c.in_err-take_byte.was (p.1 ∙ ap Err p.2) c.take_byte.ensures.cause
-
-pub loop-byte-preserved : goal.loop-byte-preserved
-loop-byte-preserved g c =
-    let i = c.loop-byte.byte-index in
+pub loop-at-preserved : goal.loop-at-preserved
+loop-at-preserved g c =
     let begun = c.args.pending.now.items in
     let piece = c.args.piece.now in
-    let (written, goes, taken) = c.loop-byte.invariant.so_far in
-    let (more, goes_more, taken_more) = rw c.loop-byte.invariant.rest at c.in_ok-take_byte.ensures.plays in
+    let start = c.loop-at.start in
+    let at = c.in-Some.at in
+    let (lt, lacks, feed) = found_at 10 (drop start piece) c.memchr.result at (rw (take_rest piece start) at c.memchr.ensures) c.in-Some.is in
+    let (written, goes, taken) = c.loop-at.invariant.so_far in
+    let (more, goes_more, taken_more) = rw c.loop-at.invariant.rest at c.in_ok-take_line.ensures.plays in
     record {
+      within = omega (arith, lt, length-drop start piece);
       so_far = (
         written ++ more,
-        rw (records_after-next begun piece i (omega arith)) (goes_then _ _ _ (records_after begun (take i piece)) _ written more goes goes_more),
+        rw (next_records begun piece start at lt lacks feed) (goes_then _ _ _ (records_after begun (take start piece)) _ written more goes goes_more),
         Appends-trans _ _ _ written more taken taken_more,
       );
-      rest = rw c.loop-byte.invariant.rest at c.in_ok-take_byte.ensures.rest ∙ sym (last_part-next begun piece i (omega arith));
-      counted = omega (arith, c.loop-byte.invariant.counted, c.in_ok-take_byte.ensures.counted);
-      later = omega (arith, c.loop-byte.invariant.later, c.take_byte.ensures.cause.later);
+      rest = c.in_ok-take_line.ensures.rest ∙ sym (next_part begun piece start at lt lacks feed);
+      counted = grind (arith, c.loop-at.invariant.counted, c.in_ok-take_line.ensures.counted, c.in_ok-take_line.ensures.rest, lt, length-drop start piece);
+      later = omega (arith, c.loop-at.invariant.later, c.take_line.ensures.cause.later);
     }
+
+pub returns-in_default-extend_from_slice-clause-plays : goal.returns-in_default-extend_from_slice-clause-plays
+returns-in_default-extend_from_slice-clause-plays g c =
+    let begun = c.args.pending.now.items in
+    let piece = c.args.piece.now in
+    let start = c.loop-at.start in
+    let lacks = found_none 10 (drop start piece) c.memchr.result (rw (take_rest piece start) at c.memchr.ensures) c.in_default.is in
+    let (written, goes, taken) = c.loop-at.invariant.so_far in
+    (written, rw (records_after-split begun piece start) (begins_with _ _ (records_after begun (take start piece)) (records_after (last_part begun (take start piece)) (drop start piece)) written goes), taken)
+
+pub returns-clause-plays : goal.returns-clause-plays
+returns-clause-plays g c =
+    let begun = c.args.pending.now.items in
+    let piece = c.args.piece.now in
+    let start = c.loop-at.start in
+    let lacks = found_none 10 (drop start piece) c.memchr.result (rw (take_rest piece start) at c.memchr.ensures) c.in_default.is in
+    rw (end_records begun piece start lacks) c.loop-at.invariant.so_far
+
+pub returns-clause-rest : goal.returns-clause-rest
+returns-clause-rest g c =
+    let begun = c.args.pending.now.items in
+    let piece = c.args.piece.now in
+    let start = c.loop-at.start in
+    let lacks = found_none 10 (drop start piece) c.memchr.result (rw (take_rest piece start) at c.memchr.ensures) c.in_default.is in
+    let good : is_ok c.extend_from_slice.result ≡ true = search rules in
+    let items = rw (good, take_rest piece start) at c.extend_from_slice.ensures.items in
+    items ∙ ap (λ l. l ++ drop start piece) c.loop-at.invariant.rest ∙ end_part begun piece start lacks
