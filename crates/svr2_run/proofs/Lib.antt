@@ -2,5 +2,6 @@ pub mod Digits
 pub mod Shapes
 pub mod Playing
 pub mod Runs
-pub mod Words
+pub mod Parses
 mod Examples
+mod WordExamples

@@ -2,6 +2,7 @@
 use Rattle.std.proofs.Common.{refl, sym, ap, ◌∙◌, ◌≡◌, ◌+◌, ℕ, List, [], ◌∷◌, ◌++◌, Bool, true, false, Option, Some, None, append-nil}
 use Rattle.record_stream.specs.Lines.{Record}
 use Rattle.record_stream.specs.Course.{Goes, Stops}
+use Rattle.schedule_text.specs.declared.fault.Stopped.TheVariants as stopped
 use Rattle.svr2_run.specs.declared.event.Event.{Event}
 use Rattle.svr2_run.specs.Form.{event_of}
 use Rattle.svr2_run.specs.Trace.{World, after, course_from, in_form_from, lines_of, stopped_line, text_from}
@@ -10,7 +11,7 @@ pub goes_event : (w v : World) (r : Record) (e : Event) → event_of w.voter w.p
 unfolding text_from in_form_from
 goes_event w v r e is to = record { text = λ closed more. rw (is, to) refl; reason = λ more. rw (is, to) refl }
 
-pub stops_event : (w : World) (r : Record) → event_of w.voter w.path r ≡ None → Stops (course_from w) (r ∷ []) (record {}) (stopped_line (w.events + 1))
+pub stops_event : (w : World) (r : Record) → event_of w.voter w.path r ≡ None → Stops (course_from w) (r ∷ []) stopped.AtRecord (stopped_line (w.events + 1))
 unfolding text_from in_form_from
 stops_event w r is = record { text = λ closed more. rw is refl; reason = λ more. rw is refl }
 

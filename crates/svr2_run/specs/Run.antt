@@ -1,52 +1,101 @@
--- How a run of `replay` ended.
-use Rattle.std.specs.Prelude.{ℕ, ◌+◌, ◌≡◌, ◌≤◌, ◌<◌, true, false, List, [], ◌++◌, length, take, Option, Some}
+-- How a run ended.
+use Rattle.std.specs.Prelude.{ℕ, ◌+◌, ◌≡◌, ◌≤◌, ◌<◌, ◌⊎◌, true, false, if◌then◌else◌, List, [], ◌++◌, length, take, Option, Some, None}
 use Rattle.std.specs.Io.KnownBytes.{Appends, Consumes}
 use Rattle.svr_base.specs.Streams.{AppendsPrefix}
 use Rattle.record_stream.specs.Ends.{limit, piece_size}
 use Rattle.record_stream.specs.declared.source.Ended.{Ended}
 use Rattle.record_stream.specs.declared.source.Ended.TheVariants as ended
+use Rattle.schedule_model.specs.Written.{stopped_text}
+use Rattle.schedule_model.specs.Written as written
+use Rattle.schedule_text.specs.declared.fault.Stopped.{Stopped}
+use Rattle.schedule_text.specs.declared.fault.Stopped.TheVariants as stopped
+use Rattle.trace_model.specs.TableText.{table_text}
+use Rattle.table_command.specs.Text.{stop_of_table, table_lines, stop_of_whole}
 use Rattle.svr2_run.specs.Trace.{event_lines_of, in_form, stopped_line, trace_of, whole_in_form}
-use Rattle.svr2_run.specs.declared.event.Unbuilt.{Unbuilt}
 use Rattle.svr2_run.specs.declared.command.Status.{Status}
 use Rattle.svr2_run.specs.declared.command.Status.TheVariants as status
+use Rattle.svr2_run.specs.declared.words.Command.{Command}
+use Rattle.svr2_run.specs.declared.words.Command.TheVariants.{Replay, Table}
 
--- the last line of a text says that a record is outside the form
-pub record EndsStopped (text : List ℕ) : Type 0 where
+-- the whole text of a command over the bytes of a source
+abbrev pub text_of : Command → List ℕ → List ℕ
+text_of Replay bytes = trace_of bytes
+text_of (Table rows) bytes = table_text rows bytes
+
+-- the lines of the records that stand whole in bytes, without those at the end
+abbrev pub lines_of : Command → List ℕ → List ℕ
+lines_of Replay bytes = event_lines_of bytes
+lines_of (Table rows) bytes = table_lines rows bytes
+
+-- why one of the records of bytes ends the text, where one does
+abbrev pub stop_of : Command → List ℕ → Option Stopped
+stop_of Replay bytes = if in_form bytes then None else Some stopped.AtRecord
+stop_of (Table rows) bytes = stop_of_table rows bytes
+
+-- the same of the records that stand whole in bytes
+abbrev pub whole_stop_of : Command → List ℕ → Option Stopped
+whole_stop_of Replay bytes = if whole_in_form bytes then None else Some stopped.AtRecord
+whole_stop_of (Table rows) bytes = stop_of_whole rows bytes
+
+-- the last line of a text that ends before its schedule
+abbrev pub IsStopLine : Command → List ℕ → Type 0
+IsStopLine Replay line = (number : ℕ) × (line ≡ stopped_line number)
+IsStopLine (Table rows) line = (stop : written.Stop) × (line ≡ stopped_text stop)
+
+-- the last line of a text says why it ends there
+pub record EndsStopped (command : Command) (text : List ℕ) : Type 0 where
   pub before : List ℕ
-  pub line : ℕ
-  pub parts : text ≡ before ++ stopped_line line
+  pub line : List ℕ
+  pub last : IsStopLine command line
+  pub parts : text ≡ before ++ line
 
--- all records that stand whole in these bytes are in the form, and the sink gained exactly their event lines
-pub record WroteEvents (bytes : List ℕ) (old new : Option (List ℕ)) : Type 0 where
-  pub form : whole_in_form bytes ≡ true
-  pub lines : Appends old new (event_lines_of bytes)
+-- no record that stands whole in these bytes ends the text, and the sink gained exactly their lines
+pub record WroteLines (command : Command) (bytes : List ℕ) (old new : Option (List ℕ)) : Type 0 where
+  pub unstopped : whole_stop_of command bytes ≡ None
+  pub lines : Appends old new (lines_of command bytes)
 
--- The sink failed after it had gained first bytes of the trace. All that had been read but for the last piece, of at
+-- The sink failed after it had gained first bytes of the text. All that had been read but for the last piece, of at
 -- most 65,536 bytes, had been played before: the lines of the records whole in it were gained.
-pub record CutOff (all : List ℕ) (left old new : Option (List ℕ)) : Type 0 where
+pub record CutOff (command : Command) (all : List ℕ) (left old new : Option (List ℕ)) : Type 0 where
   pub before : List ℕ
   pub piece : List ℕ
   pub read : Consumes (Some all) left (before ++ piece)
   pub short : length piece ≤ piece_size
   pub more : List ℕ
   pub rest : List ℕ
-  pub trace : trace_of all ≡ (event_lines_of before ++ more) ++ rest
-  pub gained : Appends old new (event_lines_of before ++ more)
+  pub text : text_of command all ≡ (lines_of command before ++ more) ++ rest
+  pub gained : Appends old new (lines_of command before ++ more)
+
+-- one of the records ended the text for this reason, and the sink gained the whole text, which says so
+abbrev pub StoppedBy : Command → Stopped → List ℕ → Option (List ℕ) → Option (List ℕ) → Type 0
+StoppedBy command why all old new =
+    (stop_of command all ≡ Some why) × EndsStopped command (text_of command all) × Appends old new (text_of command all)
 
 -- how it ended over a source that held all these bytes, with what the source has left and what the sink gained
-abbrev pub RunsOver : List ℕ → Option (List ℕ) → Option (List ℕ) → Option (List ℕ) → Status → Type 0
-RunsOver all left old new status.Done = (left ≡ Some []) × (length all ≤ limit) × (in_form all ≡ true) × Appends old new (trace_of all)
-RunsOver all left old new status.Schedule = (in_form all ≡ false) × EndsStopped (trace_of all) × Appends old new (trace_of all)
-RunsOver all left old new status.ReadFault = (read : List ℕ) × Consumes (Some all) left read × WroteEvents read old new
-RunsOver all left old new status.Limit = (limit < length all) × WroteEvents (take limit all) old new
-RunsOver all left old new status.WriteFault = CutOff all left old new
-RunsOver all left old new status.Memory = AppendsPrefix old new (trace_of all)
-RunsOver all left old new status.Usage = ⊥
+abbrev pub RunsOver : Command → List ℕ → Option (List ℕ) → Option (List ℕ) → Option (List ℕ) → Status → Type 0
+RunsOver command all left old new status.Done =
+    (left ≡ Some []) × (length all ≤ limit) × (stop_of command all ≡ None) × Appends old new (text_of command all)
+RunsOver command all left old new status.Schedule = StoppedBy command stopped.AtRecord all old new
+RunsOver command all left old new status.ReadFault = (read : List ℕ) × Consumes (Some all) left read × WroteLines command read old new
+RunsOver command all left old new status.Limit =
+    ((limit < length all) × WroteLines command (take limit all) old new) ⊎ StoppedBy command stopped.AtLimit all old new
+RunsOver command all left old new status.WriteFault = CutOff command all left old new
+RunsOver command all left old new status.Memory = AppendsPrefix old new (text_of command all)
+RunsOver command all left old new status.Usage = ⊥
 
-abbrev pub status_of : Ended Unbuilt → Status
+abbrev pub status_for : Stopped → Status
+status_for stopped.AtRecord = status.Schedule
+status_for stopped.AtLimit = status.Limit
+
+abbrev pub status_of : Ended Stopped → Status
 status_of ended.Done = status.Done
-status_of (ended.Stopped why) = status.Schedule
+status_of (ended.Stopped why) = status_for why
 status_of ended.Memory = status.Memory
 status_of ended.ReadFault = status.ReadFault
 status_of ended.WriteFault = status.WriteFault
 status_of ended.Limit = status.Limit
+
+-- the status where nothing but the records decides
+abbrev pub status_by : Option Stopped → Status
+status_by None = status.Done
+status_by (Some why) = status_for why

@@ -5,12 +5,13 @@ use Rattle.svr_base.specs.declared.message.Response.TheVariants as responses
 use Rattle.client_msgs.specs.Canonical.{canonical_response}
 use Rattle.record_stream.specs.Lines.{Record, records_of, whole_records}
 use Rattle.record_stream.specs.Course.{Course}
+use Rattle.schedule_text.specs.declared.fault.Stopped.{Stopped}
+use Rattle.schedule_text.specs.declared.fault.Stopped.TheVariants as stopped
 use Rattle.svr2_run.specs.declared.event.Ask.{Ask}
 use Rattle.svr2_run.specs.declared.event.Event.{Event}
 use Rattle.svr2_run.specs.declared.event.Event.TheVariants as events
 use Rattle.svr2_run.specs.declared.event.Entry.{Entry}
 use Rattle.svr2_run.specs.declared.event.Entry.TheVariants as entries
-use Rattle.svr2_run.specs.declared.event.Unbuilt.{Unbuilt}
 use Rattle.svr2_run.specs.Form.{event_of}
 
 -- where a run stands: its voter, once there is one, the path of entries that the voter committed, all of term 1, and how
@@ -105,10 +106,10 @@ in_form_from w [] = true
 in_form_from w (r ∷ rs) = form_then w (λ v. in_form_from v rs) (event_of w.voter w.path r)
 
 -- what a run writes from here on
-abbrev pub course_from : World → Course Unbuilt
+abbrev pub course_from : World → Course Stopped
 course_from w = record {
   text = λ closed rs. text_from closed w rs;
-  reason = λ rs. if in_form_from w rs then None else Some (record {});
+  reason = λ rs. if in_form_from w rs then None else Some stopped.AtRecord;
 }
 
 -- ---- a source's bytes

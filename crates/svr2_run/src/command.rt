@@ -1,18 +1,21 @@
 //! The top call.
-ghost use Rattle.std.specs.Prelude.{◌≡◌, ◌≢◌, ◌≤◌, ◌<◌, ◌↔◌, ℕ, true, false, if◌then◌else◌, IsTrue, [], ◌∷◌, List, length, map, take, codes, string_bytes, Some, IfSome};
+ghost use Rattle.std.specs.Prelude.{◌≡◌, ◌≢◌, ◌≤◌, ◌<◌, ◌⊎◌, ℕ, [], List, length, map, take, string_bytes, Some, None, IfSome};
 ghost use Rattle.std.specs.Io.KnownBytes.{Appends, Consumes};
 ghost use Rattle.svr_base.specs.Causes.{Rose};
 ghost use Rattle.svr_base.specs.Streams.{AppendsPrefix};
 ghost use Rattle.record_stream.specs.Ends.{limit};
-ghost use Rattle.svr2_run.specs.Trace.{in_form, trace_of};
-ghost use Rattle.svr2_run.specs.Run.{CutOff, EndsStopped, RunsOver, WroteEvents};
+ghost use Rattle.record_table.specs.declared.store.TheConstants.{MOST_ROWS};
+ghost use Rattle.svr2_run.specs.Run.{CutOff, RunsOver, StoppedBy, WroteLines, status_by, stop_of, text_of};
 ghost use Rattle.svr2_run.specs.Run as spec;
+ghost use Rattle.svr2_run.specs.Words.{command_of};
 
-use crate::event::Unbuilt;
 use crate::state::OneVoter;
+use crate::words::{Command, read_words};
 use record_stream::{Ended, play_source};
+use schedule_text::Stopped;
 use std::alloc::Global;
-use svr_base::{Sink, Source};
+use svr_base::{Memory, Sink, Source};
+use table_command::TablePlayer;
 
 /// How a command ended. The numbers are the exit statuses of the program.
 #[derive(Clone, Copy, Debug, PartialEq, Eq)]
@@ -23,22 +26,23 @@ pub enum Status {
     Memory = 1,
     /// The words are no command.
     Usage = 2,
-    /// A record is outside the form that is built.
+    /// A record means nothing.
     Schedule = 3,
     /// The source failed.
     ReadFault = 4,
     /// The sink failed.
     WriteFault = 5,
-    /// The source holds more than 67,108,864 bytes.
+    /// The source holds more than 67,108,864 bytes, or another limit would be passed.
     Limit = 7,
 }
 
-fn status_of(ended: Ended<Unbuilt>) -> Status
+fn status_of(ended: Ended<Stopped>) -> Status
     ensures { result ≡ spec.status_of ended }
 {
     match ended {
         Ended::Done => Status::Done,
-        Ended::Stopped(Unbuilt) => Status::Schedule,
+        Ended::Stopped(Stopped::AtRecord) => Status::Schedule,
+        Ended::Stopped(Stopped::AtLimit) => Status::Limit,
         Ended::Memory => Status::Memory,
         Ended::ReadFault => Status::ReadFault,
         Ended::WriteFault => Status::WriteFault,
@@ -48,10 +52,10 @@ fn status_of(ended: Ended<Unbuilt>) -> Status
 
 /// Plays a schedule from the source, and writes its trace to the sink.
 fn replay<S: Source, K: Sink>(alloc: Global, source: &mut S, sink: &mut K) -> Status
-    ensures runs { IfSome (S.left source.old) (λ all. RunsOver all (S.left source.new) (K.taken sink.old) (K.taken sink.new) result) }
+    ensures runs { IfSome (S.left source.old) (λ all. RunsOver Command.Replay all (S.left source.new) (K.taken sink.old) (K.taken sink.new) result) }
     ensures decided { IfSome (S.left source.old) (λ all. length all ≤ limit
         → ¬ Rose (S.faults source.old) (S.faults source.new) → ¬ Rose (K.faults sink.old) (K.faults sink.new)
-        → result ≢ Status.Memory → result ≡ (if in_form all then Status.Done else Status.Schedule)) }
+        → result ≢ Status.Memory → result ≡ status_by (stop_of Command.Replay all)) }
     ensures never_usage { result ≢ Status.Usage }
     ensures read_cause { result ≡ Status.ReadFault → Rose (S.faults source.old) (S.faults source.new) }
     ensures write_cause { result ≡ Status.WriteFault → Rose (K.faults sink.old) (K.faults sink.new) }
@@ -59,21 +63,29 @@ fn replay<S: Source, K: Sink>(alloc: Global, source: &mut S, sink: &mut K) -> St
     ensures write_later { K.faults sink.old ≤ K.faults sink.new }
 {
     let mut voter = OneVoter::new(alloc);
-    let ended = play_source(alloc, &mut voter, source, sink);
-    status_of(ended)
+    status_of(play_source(alloc, &mut voter, source, sink))
 }
 
-/// Whether the words are the one word `replay`.
-fn is_replay(words: &[String]) -> bool
-    ensures { IsTrue result ↔ (map string_bytes words.now ≡ codes "replay" ∷ []) }
+/// Applies the requests of the source's records to one table, and writes what comes of them to the sink.
+fn table<S: Source, K: Sink>(alloc: Global, rows: u32, source: &mut S, sink: &mut K) -> Status
+    requires least { 1 ≤ rows }
+    requires most { rows ≤ MOST_ROWS }
+    ensures runs { IfSome (S.left source.old) (λ all. RunsOver (Command.Table rows) all (S.left source.new) (K.taken sink.old) (K.taken sink.new) result) }
+    ensures decided { IfSome (S.left source.old) (λ all. length all ≤ limit
+        → ¬ Rose (S.faults source.old) (S.faults source.new) → ¬ Rose (K.faults sink.old) (K.faults sink.new)
+        → result ≢ Status.Memory → result ≡ status_by (stop_of (Command.Table rows) all)) }
+    ensures never_usage { result ≢ Status.Usage }
+    ensures read_cause { result ≡ Status.ReadFault → Rose (S.faults source.old) (S.faults source.new) }
+    ensures write_cause { result ≡ Status.WriteFault → Rose (K.faults sink.old) (K.faults sink.new) }
+    ensures read_later { S.faults source.old ≤ S.faults source.new }
+    ensures write_later { K.faults sink.old ≤ K.faults sink.new }
 {
-    match words {
-        [word] => word.as_str() == "replay",
-        _ => false,
-    }
+    let mut player = TablePlayer::new(alloc, rows);
+    status_of(play_source(alloc, &mut player, source, sink))
 }
 
-/// Does what the words say: `replay` plays a schedule from the source and writes its trace to the sink.
+/// Does what the words say: `replay` plays a schedule from the source and writes its trace to the sink; `table`
+/// applies the requests of the source's records to one record table and writes what comes of each.
 ///
 /// The words are the command line without the program's own name. Want of memory is the one free answer.
 pub fn run<S: Source, K: Sink>(
@@ -82,38 +94,41 @@ pub fn run<S: Source, K: Sink>(
     source: &mut S,
     sink: &mut K,
 ) -> Status
-    // Usage comes exactly where the words are no command. Nothing is read or written then.
-    ensures usage { (result ≡ Status.Usage) ↔ ¬ (map string_bytes words.now ≡ codes "replay" ∷ []) }
-    ensures usage_leaves_source { result ≡ Status.Usage → source.new ≡ source.old }
-    ensures usage_leaves_sink { result ≡ Status.Usage → sink.new ≡ sink.old }
+    // Usage comes only where the words are no command, and there nothing else but want of memory does. Nothing is read
+    // or written then.
+    ensures usage { result ≡ Status.Usage → command_of (map string_bytes words.now) ≡ None }
+    ensures no_command { command_of (map string_bytes words.now) ≡ None → (result ≡ Status.Usage) ⊎ (result ≡ Status.Memory) }
+    ensures source_left { command_of (map string_bytes words.now) ≡ None → source.new ≡ source.old }
+    ensures sink_left { command_of (map string_bytes words.now) ≡ None → sink.new ≡ sink.old }
 
-    // Where the source tells that it holds these bytes, and the sink what it gained: the whole trace,
-    ensures done { result ≡ Status.Done → IfSome (S.left source.old) (λ all.
-        (S.left source.new ≡ Some []) × (length all ≤ limit) × (in_form all ≡ true)
-        × Appends (K.taken sink.old) (K.taken sink.new) (trace_of all)) }
+    // Where the source tells that it holds these bytes, and the sink what it gained: the whole text of the command,
+    ensures done { result ≡ Status.Done → IfSome (command_of (map string_bytes words.now)) (λ command. IfSome (S.left source.old) (λ all.
+        (S.left source.new ≡ Some []) × (length all ≤ limit) × (stop_of command all ≡ None)
+        × Appends (K.taken sink.old) (K.taken sink.new) (text_of command all))) }
 
-    // which ends with a line of its own where a record is outside the form,
-    ensures schedule { result ≡ Status.Schedule → IfSome (S.left source.old) (λ all.
-        (in_form all ≡ false) × EndsStopped (trace_of all)
-        × Appends (K.taken sink.old) (K.taken sink.new) (trace_of all)) }
+    // which ends with a line of its own where a record means nothing,
+    ensures schedule { result ≡ Status.Schedule → IfSome (command_of (map string_bytes words.now)) (λ command. IfSome (S.left source.old) (λ all.
+        StoppedBy command Stopped.AtRecord all (K.taken sink.old) (K.taken sink.new))) }
 
-    // or the event lines of the records that stand whole in the bytes read, or in as many as are played,
-    ensures read_fault { result ≡ Status.ReadFault → IfSome (S.left source.old) (λ all.
+    // or the lines of the records that stand whole in the bytes read, or in as many as are played; a limit of another
+    // kind ends the text with a line of its own,
+    ensures read_fault { result ≡ Status.ReadFault → IfSome (command_of (map string_bytes words.now)) (λ command. IfSome (S.left source.old) (λ all.
         (read : List ℕ) × Consumes (Some all) (S.left source.new) read
-        × WroteEvents read (K.taken sink.old) (K.taken sink.new)) }
-    ensures limit { result ≡ Status.Limit → IfSome (S.left source.old) (λ all.
-        (limit < length all) × WroteEvents (take limit all) (K.taken sink.old) (K.taken sink.new)) }
+        × WroteLines command read (K.taken sink.old) (K.taken sink.new))) }
+    ensures limit { result ≡ Status.Limit → IfSome (command_of (map string_bytes words.now)) (λ command. IfSome (S.left source.old) (λ all.
+        ((limit < length all) × WroteLines command (take limit all) (K.taken sink.old) (K.taken sink.new))
+        ⊎ StoppedBy command Stopped.AtLimit all (K.taken sink.old) (K.taken sink.new))) }
 
-    // or first bytes of the trace.
-    ensures write_fault { result ≡ Status.WriteFault → IfSome (S.left source.old) (λ all.
-        CutOff all (S.left source.new) (K.taken sink.old) (K.taken sink.new)) }
-    ensures memory { result ≡ Status.Memory → IfSome (S.left source.old) (λ all.
-        AppendsPrefix (K.taken sink.old) (K.taken sink.new) (trace_of all)) }
+    // or first bytes of the text.
+    ensures write_fault { result ≡ Status.WriteFault → IfSome (command_of (map string_bytes words.now)) (λ command. IfSome (S.left source.old) (λ all.
+        CutOff command all (S.left source.new) (K.taken sink.old) (K.taken sink.new))) }
+    ensures memory { result ≡ Status.Memory → IfSome (command_of (map string_bytes words.now)) (λ command. IfSome (S.left source.old) (λ all.
+        AppendsPrefix (K.taken sink.old) (K.taken sink.new) (text_of command all))) }
 
-    // With the right words, no fault and not too many bytes, the records decide.
-    ensures decided { map string_bytes words.now ≡ codes "replay" ∷ [] → IfSome (S.left source.old) (λ all. length all ≤ limit
+    // With the words of a command, no fault and not too many bytes, the records decide.
+    ensures decided { IfSome (command_of (map string_bytes words.now)) (λ command. IfSome (S.left source.old) (λ all. length all ≤ limit
         → ¬ Rose (S.faults source.old) (S.faults source.new) → ¬ Rose (K.faults sink.old) (K.faults sink.new)
-        → result ≢ Status.Memory → result ≡ (if in_form all then Status.Done else Status.Schedule)) }
+        → result ≢ Status.Memory → result ≡ status_by (stop_of command all))) }
 
     // A fault has its cause, and no count of faults falls.
     ensures read_cause { result ≡ Status.ReadFault → Rose (S.faults source.old) (S.faults source.new) }
@@ -121,9 +136,10 @@ pub fn run<S: Source, K: Sink>(
     ensures read_later { S.faults source.old ≤ S.faults source.new }
     ensures write_later { K.faults sink.old ≤ K.faults sink.new }
 {
-    if is_replay(words) {
-        replay(alloc, source, sink)
-    } else {
-        Status::Usage
+    match read_words(alloc, words) {
+        Ok(Some(Command::Replay)) => replay(alloc, source, sink),
+        Ok(Some(Command::Table { limit })) => table(alloc, limit, source, sink),
+        Ok(None) => Status::Usage,
+        Err(Memory) => Status::Memory,
     }
 }

@@ -30,7 +30,3 @@ pub enum Entry {
     /// A client's request.
     Ask(Ask),
 }
-
-/// A record is outside the form that is built.
-#[derive(Clone, Copy, Debug, PartialEq, Eq)]
-pub struct Unbuilt;

@@ -10,7 +10,10 @@ mod number;
 mod player;
 mod state;
 #[cfg(test)]
+mod table_tests;
+#[cfg(test)]
 mod tests;
 mod voter;
+mod words;
 
 pub use command::{Status, run};

@@ -3,27 +3,27 @@ ghost use Rattle.svr2_run.specs.Trace.{course_from};
 ghost use Rattle.svr2_run.specs.Worlds.{world_of};
 ghost use Rattle.svr2_run.specs.Openings.{nothing_from, unstopped_from};
 
-use crate::event::Unbuilt;
 use crate::form::read_event;
 use crate::state::OneVoter;
 use csv::ByteRecord;
 use record_stream::{Player, Stop, Unwritten};
+use schedule_text::Stopped;
 use svr_base::Sink;
 
 impl Player for OneVoter {
-    type Reason = Unbuilt;
+    type Reason = Stopped;
 
     ghost course = { λ p. course_from (world_of p) };
 
     ghost count = { λ p. p.events };
 
-    fn play<K: Sink>(&mut self, row: &ByteRecord, sink: &mut K) -> Result<(), Stop<Unbuilt>> {
+    fn play<K: Sink>(&mut self, row: &ByteRecord, sink: &mut K) -> Result<(), Stop<Stopped>> {
         let Ok(event) = read_event(self.alloc, row, self.voter, self.path.as_slice()) else {
             return Err(Stop::Memory);
         };
         let Some(event) = event else {
             self.stop(sink)?;
-            return Err(Stop::Stopped(Unbuilt));
+            return Err(Stop::Stopped(Stopped::AtRecord));
         };
         self.take(event, sink)?;
         Ok(())

@@ -1,0 +1,55 @@
+-- What a parse of words says.
+use Rattle.std.proofs.Common.{refl, sym, ap, subst, ◌∙◌, ◌≡◌, ◌≢◌, ◌⊎◌, ℕ, List, [], ◌∷◌, map, true, false, Option, Some, None, Result, Ok, Err, IfOk, OnOk, inl, inr, codes}
+use Rattle.std.specs.Prelude.{option_map}
+use Rattle.clap.specs.Words.{App, FailsBy, HasKind, HasMatchesOf, Kinds, Row, fault_of, first_of, first_value, found_of, is_simple, is_simple_and_free, kind_of, matches_of, rows_of}
+use Rattle.clap.specs.declared.error.Error.{Error}
+use Rattle.clap.specs.declared.error.kind.ErrorKind.TheVariants.{OutOfMemory}
+use Rattle.clap.specs.declared.parser.matches.ArgMatches.{ArgMatches}
+use Rattle.clap.proofs.WalkLemmas.{first_value-rows}
+use Rattle.std.proofs.lemmas.Bool.{cases_Bool}
+use Rattle.std.proofs.lemmas.Slice.Eq.{bytes_eq-Decides}
+use Rattle.std.specs.Prelude.{bytes_eq, slice_get}
+use Rattle.svr2_run.specs.Words.{command_of, if_taken, limit_of, matched, table_app, table_of}
+use Rattle.svr2_run.specs.declared.words.Command.{Command}
+use Rattle.svr2_run.specs.declared.words.Command.TheVariants.{Table}
+
+-- ---- words that are refused
+
+untaken : (kinds : Kinds) (e : Error) (rows : List Row) → HasKind kinds e → kind_of e ≢ OutOfMemory → if_taken kinds rows ≡ None
+untaken [] e rows (inl memory) ne = absurd (ne memory)
+untaken [] e rows (inr among) ne = absurd among
+untaken (kind ∷ kinds) e rows h ne = refl
+
+pub refused : {E : Type 0} (app want : App) (words : List (List ℕ)) (e : Error) (result : Result (Option Command) E) (f : Option (List Row) → Option Command) → app ≡ want → is_simple_and_free want ≡ true
+    → (is_simple_and_free app ≡ true → HasKind (fault_of app words) e) → f None ≡ None → IfOk result (λ command. command ≡ None) → OnOk result (kind_of e ≢ OutOfMemory)
+    → IfOk result (λ command. command ≡ f (matched want words))
+refused app want words e (Err x) f is simple fails empty said kind = tt
+refused app want words e (Ok command) f is simple fails empty said kind =
+    let has : HasKind (fault_of want words) e = subst (λ (a : App). HasKind (fault_of a words) e) is (fails (ap is_simple_and_free is ∙ simple)) in
+    said ∙ sym (ap f (untaken (fault_of want words) e (matches_of want words) has kind) ∙ empty)
+
+-- ---- words that are taken
+
+pub taken : (app want : App) (words : List (List ℕ)) → app ≡ want → is_simple_and_free want ≡ true → (is_simple_and_free app ≡ true → fault_of app words ≡ []) → matched want words ≡ Some (matches_of want words)
+taken app want words is simple passes = ap (λ (kinds : Kinds). if_taken kinds (matches_of want words)) (sym (ap (λ (a : App). fault_of a words) is) ∙ passes (ap is_simple_and_free is ∙ simple))
+
+-- the value of an option
+pub value_is : (app want : App) (words : List (List ℕ)) (m : ArgMatches) (id : List ℕ) → app ≡ want → is_simple want ≡ true → HasMatchesOf app words m → first_value (found_of m) id ≡ first_of id (matches_of want words)
+value_is app want words m id is simple has =
+    first_value-rows (found_of m) id ∙ ap (first_of id) ((has (ap is_simple is ∙ simple)).0 ∙ ap (λ (a : App). matches_of a words) is)
+
+pub table_is : (words : List (List ℕ)) (limit o : Option ℕ) → matched table_app words ≡ Some (matches_of table_app words) → limit ≡ limit_of (first_of (codes "rows") (matches_of table_app words))
+    → limit ≡ o → option_map Table o ≡ table_of words
+table_is words limit o is value says = rw (is, ← value, says) refl
+
+-- ---- another word than a command's name
+
+differs : (xs ys : List ℕ) → (xs ≡ ys → ⊥) → bytes_eq xs ys ≡ false
+differs xs ys ne = elim (cases_Bool (bytes_eq xs ys)) [ inl y ↦ absurd (ne ((bytes_eq-Decides xs ys).0 y)) | inr n ↦ n ]
+
+no_name : (name : List ℕ) (rest : List (List ℕ)) → (name ≡ codes "replay" → ⊥) → (name ≡ codes "table" → ⊥) → None ≡ command_of (name ∷ rest)
+no_name name rest a b = rw (differs name (codes "replay") a, differs name (codes "table") b) refl
+
+pub no_command : {X : Type 0} (bytes : X → List ℕ) (words : List X) (x : X) → slice_get words 0 ≡ Some x → (bytes x ≡ codes "replay" → ⊥) → (bytes x ≡ codes "table" → ⊥) → None ≡ command_of (map bytes words)
+no_command bytes [] x is a b = cc
+no_command bytes (w ∷ words) x is a b = let same : w ≡ x = cc is in rw same (no_name (bytes x) (map bytes words) a b)

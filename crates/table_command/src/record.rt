@@ -1,0 +1,43 @@
+//! What a record asks of the table.
+ghost use Rattle.csv.specs.Records.{fields_of};
+ghost use Rattle.schedule_text.specs.Read.{Reads};
+ghost use Rattle.trace_model.specs.TableText.{table_record};
+
+use csv::ByteRecord;
+use schedule_text::{RecordFault, Unread, client_at, hex_at, number_at};
+use std::alloc::Global;
+use std::marker::Model;
+use svr_base::{Bytes, Cause, ClientId};
+
+/// A client's numbered request, by its bytes.
+#[derive(Debug, Drop)]
+pub struct TableRecord {
+    pub client: ClientId,
+    pub number: u64,
+    pub request: Bytes,
+}
+
+impl Model for TableRecord {
+    ghost use Rattle.trace_model.specs.TableText.{TableRecord as Asked};
+
+    ghost Value = { Asked };
+
+    ghost view = { λ r. record { client = r.client; number = r.number; request = r.request } };
+}
+
+/// What a record asks: it has three fields, a client, a number and the hexadecimal of a request's bytes.
+pub fn read_record(alloc: Global, row: &ByteRecord) -> Result<TableRecord, Unread>
+    ensures { Reads result (table_record (fields_of row.now)) }
+{
+    if row.len() != 3 {
+        return Err(Unread::Fault(RecordFault::new(Cause::Fields, 0)));
+    }
+    let client = client_at(row, 1)?;
+    let number = number_at(row, 2, 0, u64::MAX)?;
+    let request = hex_at(alloc, row, 3)?;
+    Ok(TableRecord {
+        client,
+        number,
+        request,
+    })
+}
