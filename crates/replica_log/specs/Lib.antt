@@ -1,0 +1,5 @@
+pub mod Window
+pub mod Grafting
+pub mod Chain
+pub mod Models
+pub mod Stored
