@@ -6,7 +6,7 @@ use Rattle.std.proofs.lemmas.List.{take-take, drop-take, length-take, length-dro
 use Rattle.svr_base.specs.declared.entry.Hash.{Hash}
 use Rattle.group_quorum.specs.Conf.{Conf}
 use Rattle.replica_model.specs.declared.Progress.{Progress}
-use Rattle.replica_model.specs.declared.TheConstants.{MAX_ENTRIES}
+use Rattle.svr_base.specs.declared.limits.TheConstants.{MAX_ENTRIES}
 use Rattle.replica_model.specs.Path.{Path, Link, chain, point}
 use Rattle.replica_model.specs.Configs.{conf_index}
 use Rattle.replica_model.specs.Keyed.{has}

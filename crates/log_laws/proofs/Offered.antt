@@ -41,13 +41,13 @@ IsCalm s (Some d) = nat_le d.0 s.promised ≡ false
 
 module _ (link : Link) (s : Replica) where
   -- the hash kept at an index
-  hash_kept : (i : ℕ) → s.base ≤ i → i ≤ length s.path → hash_at link s i ≡ Some (chain link (take i s.path))
+  pub hash_kept : (i : ℕ) → s.base ≤ i → i ≤ length s.path → hash_at link s i ≡ Some (chain link (take i s.path))
   hash_kept i base fits = cond-true _ _ _ (and_from (nat_le s.base i) (nat_le i (length s.path)) (le-leb s.base i base) (le-leb i (length s.path) fits))
 
-  abbrev Hashes : ℕ → Option Hash → Type 0
+  abbrev pub Hashes : ℕ → Option Hash → Type 0
   Hashes i o = ((o ≡ Some (chain link (take i s.path))) × (s.base ≤ i) × (i ≤ length s.path)) ⊎ ((o ≡ None) × ((s.base ≤ i) → (i ≤ length s.path) → ⊥))
 
-  hash_cases : (i : ℕ) → Hashes i (hash_at link s i)
+  pub hash_cases : (i : ℕ) → Hashes i (hash_at link s i)
   hash_cases i = elim (cases_Bool (nat_le s.base i && nat_le i (length s.path))) [
     | inl b ↦
         let parts = and_parts (nat_le s.base i) (nat_le i (length s.path)) b in
@@ -69,12 +69,12 @@ module _ (link : Link) (s : Replica) where
   ]
 
   -- a point differs here, or what is later decides and the point has the path's own hash
-  abbrev Differs : Point → Option Difference → Type 0
+  abbrev pub Differs : Point → Option Difference → Type 0
   Differs p later =
       ((p.index ≤ length s.path) × (differing (hash_at link s p.index) p later ≡ Some (p.index, chain link (take p.index s.path), p.hash)))
       ⊎ ((differing (hash_at link s p.index) p later ≡ later) × (s.base ≤ p.index → p.index ≤ length s.path → chain link (take p.index s.path) ≡ p.hash))
 
-  differs_cases : (p : Point) (later : Option Difference) → Differs p later
+  pub differs_cases : (p : Point) (later : Option Difference) → Differs p later
   differs_cases p later = elim (hash_cases p.index) [
     | inl h ↦ elim (cases_Bool (same_hash (chain link (take p.index s.path)) p.hash)) [
       | inl same ↦ inr (ap (λ o. differing o p later) h.0 ∙ cond-true _ _ _ same, λ base fits. same_hash_is (chain link (take p.index s.path)) p.hash same)
@@ -84,10 +84,10 @@ module _ (link : Link) (s : Replica) where
   ]
 
   -- at each index either the two have one hash, or a difference was found by then
-  abbrev AgreeAt : Path → ℕ → Option Difference → Type 0
+  abbrev pub AgreeAt : Path → ℕ → Option Difference → Type 0
   AgreeAt path k found = (chain link (take k s.path) ≡ chain link (take k path)) ⊎ ((d : Difference) × (found ≡ Some d) × (d.0 ≤ k))
 
-  agree_until : (path : Path) (i : ℕ) (h : Hash) (es : Path) → i ≤ length path → h ≡ chain link (take i path) → drop i path ≡ es → (k : ℕ) → i ≤ k → k ≤ length path → s.base ≤ k → k ≤ length s.path → AgreeAt path k (first_difference link s (points_from link i h es))
+  pub agree_until : (path : Path) (i : ℕ) (h : Hash) (es : Path) → i ≤ length path → h ≡ chain link (take i path) → drop i path ≡ es → (k : ℕ) → i ≤ k → k ≤ length path → s.base ≤ k → k ≤ length s.path → AgreeAt path k (first_difference link s (points_from link i h es))
   agree_until path i h [] le is rest k from upto base fits =
       let here : k ≡ i = omega (arith, length-drop i path, ap length rest) in
       elim (differs_cases (record { index = i; hash = h }) None) [
@@ -132,10 +132,10 @@ module _ (link : Link) (s : Replica) where
 
   module _ (Held : Path → Type 0) (none : NoCollisionIn link Held) (closed : (p w : Path) → IsFrontOf p w → Held w → Held p) (held : Held s.path) (path : Path) (theirs : Held path) where
     -- one hash, one front
-    same_fronts : (k : ℕ) → k ≤ length s.path → k ≤ length path → chain link (take k s.path) ≡ chain link (take k path) → take k s.path ≡ take k path
+    pub same_fronts : (k : ℕ) → k ≤ length s.path → k ≤ length path → chain link (take k s.path) ≡ chain link (take k path) → take k s.path ≡ take k path
     same_fronts k a b same = same_points link Held none closed k (take k s.path) (take k path) (length-take-le k s.path a) (length-take-le k path b) (closed (take k s.path) s.path (front k s.path) held) (closed (take k path) path (front k path) theirs) same
 
-    rejoined : (k prev : ℕ) → prev ≤ k → take k s.path ≡ take k path → take k s.path ++ drop (k - prev) (drop prev path) ≡ path
+    pub rejoined : (k prev : ℕ) → prev ≤ k → take k s.path ≡ take k path → take k s.path ++ drop (k - prev) (drop prev path) ≡ path
     rejoined k prev le mine =
         let far : prev + (k - prev) ≡ k = omega arith in
         ap (λ y. take k s.path ++ y) (drop-drop (k - prev) prev path ∙ ap (λ i. drop i path) far) ∙ (ap (λ y. y ++ drop k path) mine ∙ take-append-drop k path)

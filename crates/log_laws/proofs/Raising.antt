@@ -21,7 +21,7 @@ use Rattle.log_laws.proofs.Good.{GoodPath, GoodLeading, GoodRole, GoodShape, Goo
 use Rattle.log_laws.proofs.Leading.{begins, front, path_shorter}
 
 -- the greatest number above `had` that passes is `had`, or it is above it and passes
-greatest_is : (passes : ℕ → Bool) (had n : ℕ) → (greatest_above passes had n ≡ had) ⊎ ((had < greatest_above passes had n) × (passes (greatest_above passes had n) ≡ true))
+pub greatest_is : (passes : ℕ → Bool) (had n : ℕ) → (greatest_above passes had n ≡ had) ⊎ ((had < greatest_above passes had n) × (passes (greatest_above passes had n) ≡ true))
 greatest_is passes had n =
     let is = above passes had n in
     let from = is.at_least in
@@ -30,7 +30,7 @@ greatest_is passes had n =
       | inr more ↦ inr (omega (arith, more), is.passing more)
     ]
 
-greatest_to : (passes : ℕ → Bool) (had n : ℕ) → greatest_above passes had n ≤ had + n
+pub greatest_to : (passes : ℕ → Bool) (had n : ℕ) → greatest_above passes had n ≤ had + n
 greatest_to passes had n = elim (cases_eq (greatest_above passes had n) had) [
   | inl same ↦ omega (arith, same)
   | inr more ↦ (above passes had n).within more
