@@ -1,0 +1,263 @@
+-- Elections and requests are moves of the node.
+use Rattle.std.proofs.Common.{◌≡◌, ℕ, ◌+◌, ◌<◌, ◌≤◌, ◌⊎◌, inl, inr, Bool, true, false, ◌&&◌, ◌||◌, ◌==◌, nat_lt, Option, Some, None, Result, Ok, Err, List, [], ◌∷◌, ◌++◌, length, map, refl, sym, ap, ◌∙◌, subst, arith}
+use Rattle.std.proofs.lemmas.Bool.{cond_both, cond-true, and_parts, and_from, or_cases, or_parts, cases_Bool, cases_eq, eqb-true, eq-eqb, le-ltb}
+use Rattle.std.proofs.lemmas.Option.{same_Some}
+use Rattle.svr_base.specs.declared.entry.Body.{Body}
+use Rattle.svr_base.specs.declared.entry.Body.TheVariants.{Noop, Ask}
+use Rattle.svr_base.specs.declared.entry.Hash.{Hash}
+use Rattle.svr_base.specs.declared.entry.LogEntry.{LogEntry}
+use Rattle.svr_base.specs.declared.ids.ClientId.{ClientId}
+use Rattle.svr_base.specs.declared.message.Request.{Request}
+use Rattle.svr_base.specs.declared.peer.PeerMsg.{PeerMsg}
+use Rattle.svr_base.specs.declared.peer.PeerMsg.TheVariants.{AskVote, Vote}
+use Rattle.client_msgs.specs.Canonical.{canonical_request}
+use Rattle.client_msgs.specs.Reading.{request_of}
+use Rattle.client_msgs.specs.declared.fault.RequestFault.{RequestFault}
+use Rattle.client_msgs.specs.declared.fault.RequestFault.TheVariants as faults
+use Rattle.group_quorum.specs.Conf.{Conf}
+use Rattle.group_quorum.specs.Voters.{is_in, insert_rising}
+use Rattle.replica_model.specs.Path.{Path, Link, last_term}
+use Rattle.replica_model.specs.Enough.{met_by_both}
+use Rattle.replica_model.specs.Message.{plain}
+use Rattle.replica_model.specs.Replica.{Role, Learner, Follower, Candidate, Leader, Leading, Replica, Named, nothing_named}
+use Rattle.replica_model.specs.Peers.{others, with_id, voters_counted}
+use Rattle.replica_model.specs.Call.{Call, still, says, empty_batch}
+use Rattle.replica_model.specs.Raise.{pushed, raise_and_send}
+use Rattle.replica_model.specs.Votes.{is_elected, leading_anew, led, win, stood, asks_votes, stands, stand, as_new, vote_asked, counted, vote_heard}
+use Rattle.replica_model.specs.Clients.{asked, is_busy, request_heard, valid_request, on_request, client_request}
+use Rattle.group_model.specs.Log.{IsFrontOf}
+use Rattle.halt_machine.specs.Node as node
+use Rattle.halt_machine.specs.Node.{Node, Outcome, with_value}
+use Rattle.halt_machine.specs.Machine.{Machine, In}
+use Rattle.halt_machine.specs.Changes.{is_single_change}
+use Rattle.halt_machine.proofs.Changes.{single_change_overlaps}
+use Rattle.halt_machine.proofs.Counted.{both_more}
+use Rattle.machine_laws.proofs.Goes.{reached_laws, wins, pushes, takes_message}
+use Rattle.machine_laws.proofs.Goes as goes
+use Rattle.halt_laws.proofs.Alike.{kind, node_as, VoteFits, LeadingFits, RoleFits, MsgFits, SentFits, On, At, Is}
+use Rattle.halt_laws.proofs.Onward.{own_term, IsHolder, no_learner, holder_first, known_of, here_as, Going, onward, turned, says_went}
+use Rattle.halt_laws.proofs.Raising.{led_node, lead_at, raise_went}
+use Rattle.halt_laws.proofs.Leading.{anew_fits, pushed_fits}
+
+pub not_above : (n : ℕ) → nat_lt n n ≡ false
+not_above n = le-ltb n n (omega arith)
+
+-- who stands among rising ids with one put in
+pub in_inserted : (v : ℕ) (ids : List ℕ) (u : ℕ) → is_in (insert_rising v ids) u ≡ true → (v ≡ u) ⊎ (is_in ids u ≡ true)
+in_inserted v [] u h = elim (or_cases (v == u) false h) [ inl is ↦ inl (eqb-true v u is) | inr never ↦ absurd (let apart : false ≡ true = never in cc) ]
+in_inserted v (x ∷ ids) u h = cond_both (nat_lt v x) (v ∷ x ∷ ids) (x ∷ insert_rising v ids) (λ ys. is_in ys u ≡ true → (v ≡ u) ⊎ (is_in (x ∷ ids) u ≡ true))
+    (λ b at. elim (or_cases (v == u) (is_in (x ∷ ids) u) at) [ inl is ↦ inl (eqb-true v u is) | inr rest ↦ inr rest ])
+    (λ b at. elim (or_cases (x == u) (is_in (insert_rising v ids) u) at) [
+      | inl is ↦ inr (subst (λ y. (y || is_in ids u) ≡ true) (sym is) refl)
+      | inr rest ↦ elim (in_inserted v ids u rest) [
+        | inl is ↦ inl is
+        | inr old ↦ inr (Rattle.std.proofs.lemmas.Bool.or_right (x == u) (is_in ids u) old)
+      ]
+    ])
+    h
+
+in_with : (v : ℕ) (ids : List ℕ) (u : ℕ) → is_in (with_id v ids) u ≡ true → (v ≡ u) ⊎ (is_in ids u ≡ true)
+in_with v ids u h = cond_both (is_in ids v) ids (insert_rising v ids) (λ ys. is_in ys u ≡ true → (v ≡ u) ⊎ (is_in ids u ≡ true))
+    (λ b at. inr at)
+    (λ b at. in_inserted v ids u at)
+    h
+
+-- whom the replica may vote for, the node may
+vote_free : (vote from : ℕ) (voted : Option ℕ) → VoteFits vote voted → (vote == 0 || vote == from) ≡ true → node.is_vote_for voted from ≡ true
+vote_free vote from voted (inl none) ok = subst (λ o. node.is_vote_for o from ≡ true) (sym none) refl
+vote_free vote from voted (inr one) ok =
+    let some : 0 < vote = one.0 in
+    subst (λ o. node.is_vote_for o from ≡ true) (sym one.1)
+    (elim (or_cases (vote == 0) (vote == from) ok) [
+      | inl zero ↦ absurd (let is : vote ≡ 0 = eqb-true vote 0 zero in omega arith)
+      | inr same ↦ same
+    ])
+
+module _ (link : Link) (first : Conf) (holds : ℕ → Bool) (Held : Path → Type 0) (closed : (p w : Path) → IsFrontOf p w → Held w → Held p) (w : Machine) (v : ℕ) where
+  -- a leader pushes an entry
+  pub pushing : (x : Machine) (s : Replica) (l l' : Leading) (a : Is first holds x v s) (is : s.role ≡ Leader l) → LeadingFits s.path s.committed l' a.marks → (body : Body) → node.may_push first is_single_change (led_node first v s l a.voted a.votes a.marks a.mine (known_of first holds x v s a l is).0 (known_of first holds x v s a l is).1) body ≡ true → (role : Role) → role ≡ Leader l'
+      → (g : On first holds x v (node.pushed (led_node first v s l a.voted a.votes a.marks a.mine (known_of first holds x v s a l is).0 (known_of first holds x v s a l is).1) body) (node.Accepted s.term v (s.path ++ record { term = s.term; body = body } ∷ []) ∷ []) [])
+      × At first holds g.machine v s.me s.first (s.path ++ record { term = s.term; body = body } ∷ []) s.base s.promised s.committed s.term s.vote role s.halted
+  pushing x s l l' a is fits body may role leads =
+      let known = known_of first holds x v s a l is in
+      let n : Node = led_node first v s l a.voted a.votes a.marks a.mine known.0 known.1 in
+      let stands = here_as first holds x v s a (Leader l) is in
+      let laws = reached_laws first is_single_change single_change_overlaps holds x a.reached in
+      let within : s.committed ≤ s.promised = laws.committed_promised v n stands in
+      let promised : s.promised ≤ length s.path = laws.promised_held v n stands in
+      let e : LogEntry = record { term = s.term; body = body } in
+      let g : On first holds x v (node.pushed n body) (node.Accepted s.term v (s.path ++ e ∷ []) ∷ []) [] = pushes first is_single_change single_change_overlaps holds x v n a.reached stands body may in (
+        g,
+        lead_at first holds g.machine v s.me s.first (s.path ++ e ∷ []) s.base s.promised s.committed s.term s.vote role s.halted l' leads g.reached a.voted a.votes a.marks g.here a.mine a.some a.based a.vote_is known.0
+            (pushed_fits s.path s.committed l' a.marks e (omega arith) fits) a.awake,
+      )
+
+  -- win
+  pub win_went : (s : Replica) (votes : List ℕ) → s.role ≡ Candidate votes → is_elected s votes ≡ true → Going link first holds Held w v (still s) → Going link first holds Held w v (win s)
+  win_went s votes is elected f =
+      let a = f.at in
+      let of_first = subst (λ r. RoleFits first s.first s.path s.committed r a.votes a.marks) is a.acts in
+      let n : Node = node_as node.Candidate s.term s.path s.promised s.committed a.voted a.votes a.marks in
+      let enough : met_by_both first s.path s.committed a.votes a.votes ≡ true =
+      both_more first s.path s.committed (is_in votes) (is_in votes) a.votes a.votes of_first.1 of_first.1
+      (subst (λ c. met_by_both c s.path s.committed (is_in votes) (is_in votes) ≡ true) of_first.0 elected) in
+      let g : On first holds f.now v (node.led n) (node.Accepted s.term v s.path ∷ []) [] =
+      wins first is_single_change single_change_overlaps holds f.now v n a.reached (here_as first holds f.now v s a (Candidate votes) is) refl enough in
+      let l : Leading = leading_anew s in
+      let c : Call = record (still (led s l)) { batch = record empty_batch { lead = Some s.term } } in
+      let fits : LeadingFits s.path s.committed l (λ u. 0) = anew_fits s s.path s.committed (λ u. 0) (omega arith) in
+      let laws = reached_laws first is_single_change single_change_overlaps holds g.machine g.reached in
+      let f1 : Going link first holds Held w v c =
+      onward link first holds Held w v (still s) c f (node.led n) (node.Accepted s.term v s.path ∷ []) g
+      (record { reached = g.reached; voted = a.voted; votes = a.votes; marks = λ u. 0; here = g.here; mine = a.mine; some = a.some; based = a.based; vote_is = a.vote_is; acts = (of_first.0, fits); awake = a.awake })
+      refl (λ held. held) (λ held x. x)
+      (λ t same. inr (s.path, subst (λ k. In (record { term = k; leader = v; path = s.path }) g.machine.leads) (same_Some s.term t same) (laws.lead_recorded v (node.led n) g.here refl)))
+      refl in
+      let e : LogEntry = record { term = s.term; body = Noop } in
+      let known = known_of first holds f1.now v (led s l) f1.at l (refl {a = Leader l}) in
+      let n1 : Node = led_node first v (led s l) l f1.at.voted f1.at.votes f1.at.marks f1.at.mine known.0 known.1 in
+      let p = pushing f1.now (led s l) l l f1.at (refl {a = Leader l}) (f1.at.acts).1 Noop (refl {a = true}) (Leader l) (refl {a = Leader l}) in
+      let c' : Call = record (still (pushed (led s l) Noop)) { batch = record empty_batch { lead = Some s.term } } in
+      let f2 : Going link first holds Held w v c' =
+      onward link first holds Held w v c c' f1 (node.pushed n1 Noop) (node.Accepted s.term v (s.path ++ e ∷ []) ∷ []) p.0 p.1 refl (closed s.path (s.path ++ e ∷ []) (e ∷ [], refl)) (λ held x. x) (λ t same. inl same) refl in
+      raise_went link first holds Held w v c' l f2 refl
+
+  asks_fit : (messages : List node.Message) (m : PeerMsg) → ((to : ℕ) → MsgFits link first Held messages v to nothing_named m) → (ids : List ℕ) → SentFits link first Held messages v (map (λ u. (u, plain m)) ids)
+  asks_fit messages m fits [] = tt
+  asks_fit messages m fits (u ∷ ids) = (fits u, asks_fit messages m fits ids)
+
+  -- stand for election
+  pub stand_went : (s : Replica) → (node.is_learner (kind s.role) || node.is_leader (kind s.role)) ≡ false → IsHolder s.role → Going link first holds Held w v (still s) → Going link first holds Held w v (stand s)
+  stand_went s may holder f = cond_both _ (stands (stood s)) (still s) (Going link first holds Held w v)
+      (λ b.
+      let a = f.at in
+      let n : Node = node_as (kind s.role) s.term s.path s.promised s.committed a.voted a.votes a.marks in
+      let said : List node.Message = node.AskVote (s.term + 1) v s.path ∷ node.Vote (s.term + 1) v v s.path ∷ [] in
+      let g : On first holds f.now v (node.stood v n) said [] = goes.stands first is_single_change single_change_overlaps holds f.now v n a.reached a.here may in
+      let s' : Replica = stood s in
+      let theirs = holder_first first s.first s.path s.committed s.role a.votes a.marks holder a.acts in
+      let some = a.some in
+      let stood_at : Is first holds g.machine v s' =
+      record {
+        reached = g.reached;
+        voted = Some v;
+        votes = with_value (λ u. false) v true;
+        marks = λ u. 0;
+        here = g.here;
+        mine = a.mine;
+        some = a.some;
+        based = a.based;
+        vote_is = inr (subst (λ k. 0 < k) (sym a.mine) some, ap Some (sym a.mine));
+        acts = (theirs, λ u heard. mine_alone s.me a.mine u heard);
+        awake = a.awake;
+      } in
+      cond_both (is_elected s' (s.me ∷ [])) (win s') (asks_votes s') (Going link first holds Held w v)
+      (λ elected. win_went s' (s.me ∷ []) refl elected (turned link first holds Held w v s s' f (node.stood v n) said g stood_at (λ held. held)))
+      (λ b. onward link first holds Held w v (still s) (asks_votes s') f (node.stood v n) said g stood_at refl (λ held. held)
+      (λ held x. asks_fit g.machine.history.messages (AskVote (s.term + 1) (length s.path) (last_term s.path)) (λ to. (s.path, g.said (node.AskVote (s.term + 1) v s.path) (inl refl), refl, refl)) (others s.me (voters_counted s')))
+      (λ t same. inl same) refl))
+      (λ b. f)
+    where
+      mine_alone : (me : ℕ) → me ≡ v → (u : ℕ) → is_in (me ∷ []) u ≡ true → with_value (λ x. false) v true u ≡ true
+      mine_alone me is u heard = elim (or_cases (me == u) false heard) [
+        | inl same ↦ cond-true (u == v) true false (eq-eqb u v (sym (eqb-true me u same) ∙ is))
+        | inr never ↦ absurd (let apart : false ≡ true = never in cc)
+      ]
+
+  -- vote asked
+  pub vote_asked_went : (s : Replica) → IsHolder s.role → (from last_index last : ℕ) (names : Named) → 0 < from → (f : Going link first holds Held w v (still s)) → MsgFits link first Held f.now.history.messages from v names (AskVote s.term last_index last) → Going link first holds Held w v (vote_asked s from last_index last)
+  vote_asked_went s holder from last_index last names some f k = cond_both ((s.vote == 0 || s.vote == from) && as_new s.path last_index last) _ _ (Going link first holds Held w v)
+      (λ ok.
+      let a = f.at in
+      let n : Node = node_as (kind s.role) s.term s.path s.promised s.committed a.voted a.votes a.marks in
+      let p : Path = k.0 in
+      let m : node.Message = node.AskVote s.term from p in
+      let out : Outcome = record { node = record n { vote = Some from }; sent = node.Vote s.term v from p ∷ [] } in
+      let parts = and_parts (s.vote == 0 || s.vote == from) (as_new s.path last_index last) ok in
+      let newer : as_new s.path (length p) (last_term p) ≡ true = subst (λ i. as_new s.path i (last_term p) ≡ true) (sym k.2) (subst (λ t. as_new s.path last_index t ≡ true) (sym k.3) parts.1) in
+      let free : (node.is_vote_for a.voted from && as_new s.path (length p) (last_term p)) ≡ true = and_from (node.is_vote_for a.voted from) (as_new s.path (length p) (last_term p)) (vote_free s.vote from a.voted a.vote_is parts.0) newer in
+      let does : node.takes v n false m ≡ out = own_term v n false m (no_learner s.role holder) refl ∙ cond-true _ out (node.quiet n) free in
+      let g : On first holds f.now v out.node out.sent [] = takes_message first is_single_change single_change_overlaps holds f.now v n a.reached a.here false m out k.1 (not_above s.term) does in
+      let s' : Replica = record s { vote = from } in
+      onward link first holds Held w v (still s) (says s' from (Vote s.term true)) f out.node out.sent g
+      (record { reached = g.reached; voted = Some from; votes = a.votes; marks = a.marks; here = g.here; mine = a.mine; some = a.some; based = a.based; vote_is = inr (some, refl); acts = a.acts; awake = a.awake })
+      refl (λ held. held)
+      (λ held x. (λ yes. (p, g.said (node.Vote s.term v from p) (inl refl)), tt))
+      (λ t same. inl same) refl)
+      (λ apart. says_went link first holds Held w v (still s) f from (plain (Vote s.term false)) (λ held yes. absurd (let apart : false ≡ true = yes in cc)))
+
+  counted_went : (s : Replica) (votes : List ℕ) → Going link first holds Held w v (still (record s { role = Candidate votes })) → Going link first holds Held w v (counted s votes)
+  counted_went s votes f = cond_both (is_elected s votes) (win (record s { role = Candidate votes })) (still (record s { role = Candidate votes })) (Going link first holds Held w v)
+      (λ elected. win_went (record s { role = Candidate votes }) votes refl elected f)
+      (λ b. f)
+
+  -- vote heard
+  pub vote_heard_went : (s : Replica) (role : Role) → s.role ≡ role → (from : ℕ) (granted : Bool) (names : Named) → (f : Going link first holds Held w v (still s)) → MsgFits link first Held f.now.history.messages from v names (Vote s.term granted) → Going link first holds Held w v (vote_heard s role from granted)
+  vote_heard_went s (Learner taking) is from granted names f k = f
+  vote_heard_went s Follower is from granted names f k = f
+  vote_heard_went s (Leader l) is from granted names f k = f
+  vote_heard_went s (Candidate votes) is from granted names f k = cond_both granted (counted s (with_id from votes)) (still s) (Going link first holds Held w v)
+      (λ yes.
+      let a = f.at in
+      let of_first = subst (λ r. RoleFits first s.first s.path s.committed r a.votes a.marks) is a.acts in
+      let n : Node = node_as node.Candidate s.term s.path s.promised s.committed a.voted a.votes a.marks in
+      let o = k yes in
+      let m : node.Message = node.Vote s.term from v o.0 in
+      let t : Node = record n { votes = with_value a.votes from true } in
+      let does : node.takes v n false m ≡ node.quiet t = own_term v n false m refl refl ∙ cond-true (v == v && true) (node.quiet t) (node.quiet n) (and_from (v == v) true (eq-eqb v v refl) refl) in
+      let g : On first holds f.now v t [] [] = takes_message first is_single_change single_change_overlaps holds f.now v n a.reached (here_as first holds f.now v s a (Candidate votes) is) false m (node.quiet t) o.1 (not_above s.term) does in
+      let s' : Replica = record s { role = Candidate (with_id from votes) } in
+      counted_went s (with_id from votes)
+      (turned link first holds Held w v s s' f t [] g
+      (record {
+        reached = g.reached;
+        voted = a.voted;
+        votes = with_value a.votes from true;
+        marks = a.marks;
+        here = g.here;
+        mine = a.mine;
+        some = a.some;
+        based = a.based;
+        vote_is = a.vote_is;
+        acts = (
+          of_first.0,
+          λ u heard. elim (cases_eq u from) [
+            | inl here ↦ cond-true (u == from) true (a.votes u) (eq-eqb u from here)
+            | inr other ↦ elim (in_with from votes u heard) [
+              | inl same ↦ absurd (other (sym same))
+              | inr old ↦ cond_both (u == from) true (a.votes u) (λ b. b ≡ true) (λ b. refl) (λ b. of_first.1 u old)
+            ]
+          ],
+        );
+        awake = a.awake;
+      })
+      (λ held. held)))
+      (λ b. f)
+
+  -- a client's request
+  request_went : (s : Replica) (role : Role) → s.role ≡ role → (client : ClientId) (number : ℕ) (request : Request) → Going link first holds Held w v (still s) → Going link first holds Held w v (request_heard s role client number request)
+  request_went s (Learner taking) is client number request f = f
+  request_went s Follower is client number request f = f
+  request_went s (Candidate votes) is client number request f = f
+  request_went s (Leader l) is client number request f = cond_both (is_busy s) _ (raise_and_send (still (asked s client number request)) l) (Going link first holds Held w v)
+      (λ busy. f)
+      (λ b.
+      let body : Body = Ask client number (canonical_request request) in
+      let e : LogEntry = record { term = s.term; body = body } in
+      let p = pushing f.now s l l f.at is (known_of first holds f.now v s f.at l is).1 body refl s.role is in
+      raise_went link first holds Held w v (still (asked s client number request)) l
+      (turned link first holds Held w v s (asked s client number request) f _ _ p.0 p.1 (closed s.path (s.path ++ e ∷ []) (e ∷ [], refl))) is)
+
+  valid_went : (s : Replica) (halted : Option (ℕ × Hash × Hash)) (client : ClientId) (number : ℕ) (request : Request) → Going link first holds Held w v (still s) → Going link first holds Held w v (valid_request s halted client number request)
+  valid_went s (Some d) client number request f = f
+  valid_went s None client number request f = request_went s s.role refl client number request f
+
+  on_request_went : (s : Replica) (client : ClientId) (number : ℕ) (r : Result Request RequestFault) → Going link first holds Held w v (still s) → Going link first holds Held w v (on_request s client number r)
+  on_request_went s client number (Ok request) f = valid_went s s.halted client number request f
+  on_request_went s client number (Err faults.Memory) f = f
+  on_request_went s client number (Err (faults.Wire fault)) f = f
+  on_request_went s client number (Err faults.Nothing) f = f
+  on_request_went s client number (Err (faults.Size part size)) f = f
+
+  pub client_went : (s : Replica) (client : ClientId) (number : ℕ) (bytes : List ℕ) → Going link first holds Held w v (still s) → Going link first holds Held w v (client_request s client number bytes)
+  client_went s client number bytes f = on_request_went s client number (request_of bytes) f

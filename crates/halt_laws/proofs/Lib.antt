@@ -1,0 +1,17 @@
+pub mod Alike
+pub mod Onward
+pub mod Raising
+pub mod Leading
+pub mod Sending
+pub mod Electing
+pub mod Offering
+pub mod Hearing
+pub mod Changing
+pub mod Stepping
+pub mod Moving
+pub mod Events
+pub mod Begun
+pub mod Kept
+pub mod Whole
+pub mod Ids
+pub mod Halted

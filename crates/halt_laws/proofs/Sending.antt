@@ -1,0 +1,108 @@
+-- The end of a call: its appends, a leader that stops, and the base.
+use Rattle.std.proofs.Common.{◌≡◌, ℕ, ◌+◌, ◌-◌, ◌<◌, ◌≤◌, Bool, false, not, ◌&&◌, nat_lt, nat_le, inl, Option, Some, None, List, [], ◌∷◌, length, take, drop, refl, sym, ap, arith}
+use Rattle.std.proofs.lemmas.Bool.{cond_both, and_parts, ltb-true}
+use Rattle.std.proofs.lemmas.List.{take-take, drop-take, length-take, length-drop}
+use Rattle.svr_base.specs.declared.entry.Hash.{Hash}
+use Rattle.group_quorum.specs.Conf.{Conf}
+use Rattle.replica_model.specs.declared.Progress.{Progress}
+use Rattle.svr_base.specs.declared.limits.TheConstants.{MAX_ENTRIES}
+use Rattle.replica_model.specs.Path.{Path, Link, chain, point}
+use Rattle.replica_model.specs.Configs.{conf_index}
+use Rattle.replica_model.specs.Keyed.{has}
+use Rattle.replica_model.specs.Message.{Message, plain}
+use Rattle.replica_model.specs.Replica.{Role, Learner, Follower, Candidate, Leader, Leading, Replica}
+use Rattle.replica_model.specs.Peers.{progress_of, with_progress, is_voter}
+use Rattle.replica_model.specs.Call.{Call}
+use Rattle.replica_model.specs.Send.{entries_from, append_from, can_append, sent_on, appended_to, send_append, send_appends, stepped_down, base_moved, concluded, ended}
+use Rattle.group_model.specs.Log.{IsFrontOf}
+use Rattle.log_laws.proofs.Ending.{all-append}
+use Rattle.log_laws.proofs.Leading.{front}
+use Rattle.halt_machine.specs.Node as node
+use Rattle.halt_machine.specs.Node.{Node}
+use Rattle.halt_machine.specs.Machine.{Machine, In}
+use Rattle.halt_machine.specs.Changes.{is_single_change}
+use Rattle.halt_machine.proofs.Changes.{single_change_overlaps}
+use Rattle.machine_laws.proofs.Goes.{appends, follows}
+use Rattle.halt_laws.proofs.Alike.{AppendFits, MsgFits, On}
+use Rattle.halt_laws.proofs.Onward.{known_of, here_as, Going, onward, restated}
+use Rattle.halt_laws.proofs.Raising.{led_node, lead_at}
+use Rattle.halt_laws.proofs.Leading.{put_fits}
+
+module _ (link : Link) (first : Conf) (holds : ℕ → Bool) (Held : Path → Type 0) (closed : (p w : Path) → IsFrontOf p w → Held w → Held p) (w : Machine) (v : ℕ) where
+  -- what is sent is a front of the path
+  append_fits : (messages : List node.Message) (term : ℕ) (path : Path) (next promised committed : ℕ) → 0 < next → next ≤ length path + 1 → Held path → In (node.Append term (take (next - 1 + MAX_ENTRIES) path) promised committed) messages → AppendFits link Held messages term (point link path (next - 1)) (entries_from path next) promised committed
+  append_fits messages term path next promised committed some fits held stands =
+      let k : ℕ = next - 1 in
+      let part : Path = take (k + MAX_ENTRIES) path in
+      record {
+        path = part;
+        stands = stands;
+        held = closed part path (front (k + MAX_ENTRIES) path) held;
+        prev_fits = omega (arith, length-take (k + MAX_ENTRIES) path);
+        hash_is = ap (chain link) (sym (take-take k (k + MAX_ENTRIES) path (omega arith)));
+        entries_are = sym (drop-take k MAX_ENTRIES path);
+      }
+
+  -- one append
+  append_went : (c : Call) (role : Role) (u : ℕ) → c.state.role ≡ role → Going link first holds Held w v c → Going link first holds Held w v (send_append link c role u)
+  append_went c (Learner taking) u is f = f
+  append_went c Follower u is f = f
+  append_went c (Candidate votes) u is f = f
+  append_went c (Leader l) u is f = cond_both (can_append c.state l u) (appended_to link c l u) c (Going link first holds Held w v)
+      (λ b.
+      let s : Replica = c.state in
+      let a = f.at in
+      let known = known_of first holds f.now v s a l is in
+      let n : Node = led_node first v s l a.voted a.votes a.marks a.mine known.0 known.1 in
+      let p : Progress = progress_of l u in
+      let some : s.base < p.next = ltb-true _ _ (and_parts (not (has l.sendings u)) (nat_lt s.base p.next) b).1 in
+      let next_fits = known.1.next_fits u in
+      let k : ℕ = p.next - 1 + MAX_ENTRIES in
+      let said : node.Message = node.Append s.term (take k s.path) s.promised s.committed in
+      let g : On first holds f.now v n (said ∷ []) [] = appends first is_single_change single_change_overlaps holds f.now v n a.reached (here_as first holds f.now v s a (Leader l) is) k refl in
+      let l' : Leading = with_progress l u (sent_on s.path p) in
+      onward link first holds Held w v c (appended_to link c l u) f n (said ∷ []) g
+      (lead_at first holds g.machine v s.me s.first s.path s.base s.promised s.committed s.term s.vote (Leader l') s.halted l' refl g.reached a.voted a.votes a.marks g.here a.mine a.some a.based a.vote_is known.0
+      (put_fits s.path s.committed l a.marks a.marks u (sent_on s.path p) (omega (arith, length-take MAX_ENTRIES (drop (p.next - 1) s.path), length-drop (p.next - 1) s.path)) (known.1.mark_fits u) (known.1.marked u) (λ x. omega arith) known.1)
+      a.awake)
+      refl (λ held. held)
+      (λ held old. all-append (λ (x : ℕ × Message). MsgFits link first Held g.machine.history.messages v x.0 x.1.names x.1.msg) c.sent ((u, plain (append_from link s p.next)) ∷ []) old
+      (append_fits g.machine.history.messages s.term s.path p.next s.promised s.committed (omega arith) next_fits held (g.said said (inl refl)), tt))
+      (λ t is'. inl is') f.untold)
+      (λ b. f)
+
+  appends_went : (us : List ℕ) (c : Call) → Going link first holds Held w v c → Going link first holds Held w v (send_appends link c us)
+  appends_went [] c f = f
+  appends_went (u ∷ us) c f = appends_went us (send_append link c c.state.role u) (append_went c c.state.role u refl f)
+
+  -- a leader that is no voter any more follows
+  stopped : (c : Call) (role : Role) → c.state.role ≡ role → Going link first holds Held w v c → Going link first holds Held w v (record c { state = stepped_down c.state role })
+  stopped c (Learner taking) is f = f
+  stopped c Follower is f = f
+  stopped c (Candidate votes) is f = f
+  stopped c (Leader l) is f = cond_both (not (is_voter c.state) && nat_le (conf_index c.state.path) c.state.committed) (record (c.state) { role = Follower; known = 0 }) c.state (λ s. Going link first holds Held w v (record c { state = s }))
+      (λ b.
+      let s : Replica = c.state in
+      let a = f.at in
+      let known = known_of first holds f.now v s a l is in
+      let n : Node = led_node first v s l a.voted a.votes a.marks a.mine known.0 known.1 in
+      let g : On first holds f.now v (node.followed n) [] [] = follows first is_single_change single_change_overlaps holds f.now v n a.reached (here_as first holds f.now v s a (Leader l) is) in
+      onward link first holds Held w v c (record c { state = record s { role = Follower; known = 0 } }) f (node.followed n) [] g
+      (record { reached = g.reached; voted = a.voted; votes = λ u. false; marks = λ u. 0; here = g.here; mine = a.mine; some = a.some; based = a.based; vote_is = a.vote_is; acts = known.0; awake = a.awake })
+      refl (λ held. held) (λ held x. x) (λ t is'. inl is') f.untold)
+      (λ b. f)
+
+  moved_base : (c : Call) → Going link first holds Held w v c → Going link first holds Held w v (record c { state = base_moved c.state })
+  moved_base c f =
+      let a = f.at in
+      let based = a.based in
+      restated link first holds Held w v c (base_moved c.state) f
+      (record { reached = a.reached; voted = a.voted; votes = a.votes; marks = a.marks; here = a.here; mine = a.mine; some = a.some; based = omega arith; vote_is = a.vote_is; acts = a.acts; awake = a.awake })
+      refl
+
+  concluded_went : (c : Call) → Going link first holds Held w v c → Going link first holds Held w v (concluded c)
+  concluded_went c f = moved_base (record c { state = stepped_down c.state c.state.role }) (stopped c c.state.role refl f)
+
+  pub ended_went : (c : Call) (halted : Option (ℕ × Hash × Hash)) → Going link first holds Held w v c → Going link first holds Held w v (ended link c halted)
+  ended_went c (Some d) f = f
+  ended_went c None f = concluded_went (send_appends link c c.appends) (appends_went c.appends c f)

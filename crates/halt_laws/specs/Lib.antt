@@ -1,0 +1,4 @@
+pub mod Unchanged
+pub mod Whole
+pub mod Succession
+pub mod OldVotes
