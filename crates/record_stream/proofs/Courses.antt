@@ -1,7 +1,7 @@
 -- Courses over records in two parts.
-use Rattle.std.proofs.Common.{refl, sym, ap, ◌∙◌, ◌≡◌, ◌+◌, ℕ, List, [], ◌∷◌, ◌++◌, take, drop, Bool, Option, Some, Result, Ok, Err, append_assoc, append-nil, take-append-drop}
+use Rattle.std.proofs.Common.{refl, sym, ap, ◌∙◌, ◌≡◌, ℕ, List, [], ◌++◌, take, drop, Bool, Option, Result, Ok, Err, append_assoc, append-nil, take-append-drop}
 use Rattle.std.specs.Io.KnownBytes.{Appends}
-use Rattle.std.proofs.KnownBytes.{Appends-nil, Appends-trans}
+use Rattle.std.proofs.KnownBytes.{Appends-trans}
 use Rattle.record_stream.specs.Lines.{Record}
 use Rattle.svr_base.specs.Streams.{AppendsPrefix}
 use Rattle.record_stream.specs.Course.{Course, Goes, Stops, Begins, PlaysTo, Writes, stop_by}

@@ -1,17 +1,15 @@
 -- The end of the source, and the ends before it.
-use Rattle.std.proofs.Common.{arith, refl, sym, ap, subst, ◌∙◌, ◌≡◌, ◌≢◌, ◌+◌, ◌≤◌, ◌<◌, ℕ, List, [], ◌∷◌, ◌++◌, length, take, drop, Bool, true, false, Option, Some, None, IfSome, Result, Ok, Err, append_assoc, append-nil, length-append}
-use Rattle.std.proofs.Math.Seq.{take-append_seam, take-append-add}
+use Rattle.std.proofs.Common.{arith, refl, sym, ap, subst, ◌∙◌, ◌≡◌, ◌≤◌, ℕ, List, [], ◌++◌, length, Bool, true, false, Option, Some, None, IfSome, Result, Err, append_assoc, append-nil}
 use Rattle.std.specs.Io.KnownBytes.{Appends, IsAtEnd}
 use Rattle.std.proofs.KnownBytes.{Appends-nil, Appends-trans}
 use Rattle.svr_base.specs.Streams.{AppendsPrefix}
 use Rattle.svr_base.proofs.Prefixes.{AppendsPrefix-after, AppendsPrefix-parts, AppendsPrefix-of_parts}
 use Rattle.record_stream.specs.Lines.{Record, last_part, last_records, records_after, records_of, whole_records}
-use Rattle.record_stream.specs.Course.{Course, Goes, Stops, Begins, PlaysTo, Writes}
-use Rattle.record_stream.specs.Ends.{ReadAhead, limit, piece_size}
+use Rattle.record_stream.specs.Course.{Course, Goes, Stops, Begins, PlaysTo}
+use Rattle.record_stream.specs.Ends.{limit, piece_size}
 use Rattle.record_stream.specs.Steps.{BeginsText, EndsAfter, Finishes, WroteWhole, ended_by}
 use Rattle.record_stream.specs.declared.player.Stop.{Stop}
 use Rattle.record_stream.specs.declared.player.Stop.TheVariants as stop
-use Rattle.record_stream.specs.declared.player.Unwritten.{Unwritten}
 use Rattle.record_stream.specs.declared.source.Ended.{Ended}
 use Rattle.record_stream.specs.declared.source.Ended.TheVariants as ended
 use Rattle.record_stream.proofs.Courses.{begins_then, goes_none, goes_then, stops_then}

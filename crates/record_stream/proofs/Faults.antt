@@ -1,6 +1,6 @@
 -- Where a fault is passed on, its cause stands.
 use Rattle.std.proofs.Common.{arith, refl, sym, ap, ◌∙◌, ◌≡◌, ◌≢◌, ◌≤◌, ℕ, List, Option, Result, Err}
-use Rattle.svr_base.specs.Causes.{HasCauseAt, Rose}
+use Rattle.svr_base.specs.Causes.{HasCauseAt}
 use Rattle.svr_base.proofs.Rises.{Rose-after}
 use Rattle.record_stream.specs.Lines.{Record}
 use Rattle.record_stream.specs.Course.{Course, stop_by}

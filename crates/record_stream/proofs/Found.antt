@@ -1,13 +1,12 @@
 -- Bytes before the first that is looked for.
 use Rattle.std.proofs.Common.{arith, refl, sym, ap, ◌∙◌, ◌≡◌, ◌+◌, ◌<◌, ◌≤◌, ℕ, zero, suc, List, [], ◌∷◌, ◌++◌, length, take, drop, get_or, Bool, true, false, append-nil, append_assoc, inl, inr, ◌==◌}
-use Rattle.std.proofs.Common.{Option, Some, None, add-one, ◌-◌, take-append-drop, drop-drop, slice_range}
+use Rattle.std.proofs.Common.{Option, Some, None, ◌&&◌, not, subst, add-one, ◌-◌, take-append-drop, drop-drop, slice_range}
 use lib.Seq.{take-add}
-use Rattle.std.proofs.lemmas.Bool.{cases_Bool, eqb-true}
-use Rattle.std.proofs.lemmas.List.{take_more}
+use Rattle.std.proofs.lemmas.Bool.{and_parts, cases_Bool, eqb-true}
+use Rattle.std.proofs.lemmas.List.{length-take-le, take-take, take_all, take_more}
 use Rattle.memchr.specs.Find.{IsFirstByte, is_byte, is_byte3}
-use Rattle.std.specs.List.{list_all}
 use Rattle.record_stream.specs.Lines.{last_part, line_records, records_after, whole_lines}
-use Rattle.record_stream.specs.Plain.{cells, is_plain, is_plain_byte}
+use Rattle.record_stream.specs.Plain.{IsFedLine, cells, is_plain, is_quiet, is_quiet_byte}
 use Rattle.record_stream.proofs.Cuts.{last_part-append, last_part-feed, records_after-append, records_after-feed, records_after-split}
 
 -- none of the first n bytes is b
@@ -97,19 +96,40 @@ found_none b hay r h is = let nowhere = rw is at h in λ k lt. nowhere k (omega 
 
 -- ---- plain bytes
 
-all_plain_bytes : (xs : List ℕ) → ((k : ℕ) → k < length xs → is_plain_byte (get_or xs k 0) ≡ true) → is_plain xs ≡ true
-all_plain_bytes [] h = refl
-all_plain_bytes (b ∷ xs) h = rw (h 0 (omega arith)) (all_plain_bytes xs (λ k lt. h (suc k) (omega arith)))
+quiet_byte : (b : ℕ) → (is_byte3 13 34 239 b ≡ true → ⊥) → is_quiet_byte b ≡ true
+quiet_byte b three = grind (arith, three)
 
-plain_byte : (b : ℕ) → (is_byte3 13 34 239 b ≡ true → ⊥) → (is_byte 10 b ≡ true → ⊥) → is_plain_byte b ≡ true
-plain_byte b three feed = grind (arith, three, feed)
+all_quiet_bytes : (xs : List ℕ) → ((k : ℕ) → k < length xs → is_quiet_byte (get_or xs k 0) ≡ true) → is_quiet xs ≡ true
+all_quiet_bytes [] h = refl
+all_quiet_bytes (b ∷ xs) h = rw (h 0 (omega arith)) (all_quiet_bytes xs (λ k lt. h (suc k) (omega arith)))
 
 -- none of the bytes that mean something
-pub all_plain : (xs : List ℕ) (r q : Option ℕ) → IsFirstByte (is_byte3 13 34 239) xs r → r ≡ None → IsFirstByte (is_byte 10) xs q → q ≡ None → is_plain xs ≡ true
-all_plain xs r q h is k none =
+pub all_quiet : (xs : List ℕ) (r : Option ℕ) → IsFirstByte (is_byte3 13 34 239) xs r → r ≡ None → is_quiet xs ≡ true
+all_quiet xs r h is =
     let three = rw is at h in
-    let feed = rw none at k in
-    all_plain_bytes xs (λ i lt. plain_byte (get_or xs i 0) (three i (omega arith) lt) (feed i (omega arith) lt))
+    all_quiet_bytes xs (λ i lt. quiet_byte (get_or xs i 0) (three i (omega arith) lt))
+
+quiet_plain : (p q r s : Bool) → p ≡ false → not q && not r && not s ≡ true → not p && not q && not r && not s ≡ true
+quiet_plain false q r s e h = h
+quiet_plain true q r s e h = cc e
+
+-- quiet bytes up to a line feed are plain
+take_plain : (xs : List ℕ) (n : ℕ) → n ≤ length xs → is_quiet xs ≡ true → Lacks 10 xs n → is_plain (take n xs) ≡ true
+take_plain [] zero lt q h = refl
+take_plain [] (suc n) lt q h = absurd (omega arith)
+take_plain (b ∷ xs) zero lt q h = refl
+take_plain (b ∷ xs) (suc n) lt q h =
+    let (quiet, more) = and_parts (is_quiet_byte b) (is_quiet xs) q in
+    rw (quiet_plain (b == 10) (b == 13) (b == 34) (b == 239) (first 10 b xs n h) quiet) (take_plain xs n (omega arith) more (later 10 b xs n h))
+
+drop_quiet : (xs : List ℕ) (n : ℕ) → is_quiet xs ≡ true → is_quiet (drop n xs) ≡ true
+drop_quiet xs zero q = q
+drop_quiet [] (suc n) q = q
+drop_quiet (b ∷ xs) (suc n) q = drop_quiet xs n (and_parts (is_quiet_byte b) (is_quiet xs) q).1
+
+-- none of the bytes that mean something, and no line feed
+pub all_plain : (xs : List ℕ) (q : Option ℕ) → is_quiet xs ≡ true → IsFirstByte (is_byte 10) xs q → q ≡ None → is_plain xs ≡ true
+all_plain xs q quiet k none = subst (λ l. is_plain l ≡ true) (take_all (length xs) xs (omega arith)) (take_plain xs (length xs) (omega arith) quiet (found_none 10 xs q k none))
 
 -- ---- a loop over the lines of a piece
 
@@ -130,6 +150,24 @@ module _ (begun piece : List ℕ) (start at : ℕ) (lt : at < length (drop start
   pub next_part : last_part begun (take (start + at + 1) piece) ≡ []
   next_part = rw (next_is piece start at) (last_part-append begun (take start piece) (take (at + 1) (drop start piece))
       ∙ (line_ends (last_part begun (take start piece)) (drop start piece) at lt lacks feed).1)
+
+-- the bytes up to a line feed, where none of them means anything else
+pub fed_line : (piece : List ℕ) (start at : ℕ) → is_quiet piece ≡ true → at < length (drop start piece) → Lacks 10 (drop start piece) at → get_or (drop start piece) at 0 ≡ 10
+    → IsFedLine (slice_range piece start (start + at + 1))
+fed_line piece start at quiet lt lacks feed =
+    let rest = drop start piece in
+    let line = slice_range piece start (start + at + 1) in
+    let is : line ≡ take (at + 1) rest = range_is piece start at in
+    let size : length line ≡ at + 1 = ap length is ∙ length-take-le (at + 1) rest (omega arith) in
+    let least : length line - 1 ≡ at = omega (arith, size) in
+    let body : take (length line - 1) line ≡ take at rest = ap (λ (n : ℕ). take n line) least ∙ ap (take at) is ∙ take-take at (at + 1) rest (omega arith) in
+    record {
+      ended = omega (arith, size);
+      plain = record {
+        plain = rw body (take_plain rest at (omega arith) (drop_quiet piece start quiet) lacks);
+        ends = inr (inl (is ∙ take_more rest at 0 lt ∙ ap (λ (b : ℕ). take at rest ++ (b ∷ [])) feed ∙ ap (λ (l : List ℕ). l ++ (10 ∷ [])) (sym body)));
+      };
+    }
 
 -- what follows the last line feed of a piece
 module _ (begun piece : List ℕ) (start : ℕ) (lacks : Lacks 10 (drop start piece) (length (drop start piece))) where

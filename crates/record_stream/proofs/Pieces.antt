@@ -1,5 +1,5 @@
 -- What a read puts into a buffer, and what of it is played.
-use Rattle.std.proofs.Common.{arith, refl, sym, ap, ◌∙◌, ◌≡◌, ◌+◌, ◌≤◌, ◌<◌, min, ℕ, List, [], ◌++◌, length, take, drop, append-nil, take-append-drop, length-append}
+use Rattle.std.proofs.Common.{arith, sym, ap, ◌∙◌, ◌≡◌, ◌+◌, ◌≤◌, ◌<◌, min, ℕ, List, ◌++◌, length, take, drop, take-append-drop, length-append}
 use Rattle.std.proofs.Math.Seq.{take-append_seam, take-append-add}
 use Rattle.std.proofs.lemmas.List.{length-take-le, take-take}
 use Rattle.record_stream.specs.Ends.{limit}

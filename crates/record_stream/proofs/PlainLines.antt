@@ -1,17 +1,16 @@
 -- What a reader makes of a plain line.
-use Rattle.std.proofs.Common.{arith, refl, sym, ap, ◌∙◌, ◌≡◌, ◌≢◌, ◌+◌, ◌-◌, ◌<◌, ◌≤◌, ◌⊎◌, ℕ, zero, suc, add-one, List, [], ◌∷◌, ◌++◌, length, take, drop, get_or, drop-cons, Option, Some, None, Bool, true, false, not, ◌==◌, ◌&&◌, append_assoc, append-nil, inl, inr}
+use Rattle.std.proofs.Common.{arith, refl, sym, ap, ◌∙◌, ◌≡◌, ◌≢◌, ◌+◌, ◌-◌, ◌<◌, ◌≤◌, ◌⊎◌, ℕ, zero, suc, add-one, List, [], ◌∷◌, ◌++◌, length, take, drop, get_or, drop-cons, Some, Bool, true, false, not, ◌==◌, ◌&&◌, append_assoc, append-nil, inl, inr}
 use Rattle.std.proofs.lemmas.Bool.{cases_Bool}
 use Rattle.std.proofs.lemmas.Bool.Decides.{eqb_tells}
 use Rattle.std.proofs.lemmas.List.{drop_all, length-drop, take_all}
 use Rattle.std.proofs.Math.Seq.{take-append_seam}
-use Rattle.std.specs.List.{list_all}
-use Rattle.csv.specs.Machine.{Read, next_record, step}
-use Rattle.csv.specs.Reading.{default_config, records, records_from, strip_bom}
+use Rattle.csv.specs.Machine.{next_record, step}
+use Rattle.csv.specs.Reading.{default_config, records_from, strip_bom}
 use Rattle.csv.specs.declared.parser.Action.TheVariants as act
 use Rattle.csv.specs.declared.parser.State.{State}
 use Rattle.csv.specs.declared.parser.State.TheVariants as st
 use Rattle.record_stream.specs.Lines.{Record, line_records}
-use Rattle.record_stream.specs.Plain.{IsPlainLine, cells, is_plain, is_plain_byte}
+use Rattle.record_stream.specs.Plain.{IsPlainLine, cells, is_plain, is_plain_byte, plain_records}
 
 -- the four tests of a plain byte
 record Plain (b : ℕ) : Type 0 where
@@ -101,35 +100,25 @@ no_mark b [] t = refl
 no_mark b (x ∷ []) t = refl
 no_mark b (x ∷ y ∷ more) t = rw t.mark refl
 
--- the record of a plain line, if it is not empty
-one_record : List ℕ → List Record
-one_record [] = []
-one_record (b ∷ bs) = cells [] (b ∷ bs) ∷ []
-
-records_plain : (end body : List ℕ) (t : State) (rest : List ℕ) → Ending end t rest → is_plain body ≡ true → line_records (body ++ end) ≡ one_record body
-unfolding line_records strip_bom records_from next_record one_record
+records_plain : (end body : List ℕ) (t : State) (rest : List ℕ) → Ending end t rest → is_plain body ≡ true → line_records (body ++ end) ≡ plain_records body
+unfolding line_records strip_bom records_from next_record
 records_plain end [] t rest Nothing h = refl
 records_plain end [] t rest Feed h = refl
 records_plain end [] t rest ReturnFeed h = refl
 records_plain end (b ∷ bs) t rest e h =
     rw (no_mark b (bs ++ end) (first_plain b bs h).0, add-one, read_first end t rest e b bs h, none_left end t rest e (length ((b ∷ bs) ++ end))) refl
 
-by_end : (line body : List ℕ) → is_plain body ≡ true → (line ≡ body) ⊎ (line ≡ body ++ (10 ∷ [])) ⊎ (line ≡ body ++ (13 ∷ 10 ∷ [])) → line_records line ≡ one_record body
+by_end : (line body : List ℕ) → is_plain body ≡ true → (line ≡ body) ⊎ (line ≡ body ++ (10 ∷ [])) ⊎ (line ≡ body ++ (13 ∷ 10 ∷ [])) → line_records line ≡ plain_records body
 by_end line body h (inl e) = ap line_records (e ∙ sym (append-nil body)) ∙ records_plain [] body _ _ Nothing h
 by_end line body h (inr (inl e)) = ap line_records e ∙ records_plain (10 ∷ []) body _ _ Feed h
 by_end line body h (inr (inr e)) = ap line_records e ∙ records_plain (13 ∷ 10 ∷ []) body _ _ ReturnFeed h
 
-pub plain_none : (line body : List ℕ) → IsPlainLine line body → body ≡ [] → line_records line ≡ []
-unfolding one_record
-plain_none line body h none = by_end line body h.plain h.ends ∙ ap one_record none
+pub some_plain : (body : List ℕ) → body ≢ [] → plain_records body ≡ cells [] body ∷ []
+some_plain [] ne = absurd (ne refl)
+some_plain (b ∷ bs) ne = refl
 
-some_record : (body : List ℕ) → body ≢ [] → one_record body ≡ cells [] body ∷ []
-unfolding one_record
-some_record [] ne = absurd (ne refl)
-some_record (b ∷ bs) ne = refl
-
-pub plain_some : (line body : List ℕ) → IsPlainLine line body → body ≢ [] → line_records line ≡ cells [] body ∷ []
-plain_some line body h ne = by_end line body h.plain h.ends ∙ some_record body ne
+pub plain_line : (line body : List ℕ) → IsPlainLine line body → line_records line ≡ plain_records body
+plain_line line body h = by_end line body h.plain h.ends
 
 -- ---- a loop over the bytes
 

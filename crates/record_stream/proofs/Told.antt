@@ -1,9 +1,9 @@
 -- How the playing of a source that tells ended.
-use Rattle.std.proofs.Common.{arith, refl, sym, ap, subst, ◌∙◌, ◌≡◌, ◌≢◌, ◌≤◌, ℕ, List, [], ◌++◌, length, take, true, Option, Some, None, IfSome, append-nil, length-append}
+use Rattle.std.proofs.Common.{arith, refl, ap, ◌∙◌, ◌≡◌, ◌≢◌, ◌≤◌, ℕ, List, ◌++◌, length, take, true, Option, Some, None, IfSome, append-nil, length-append}
 use Rattle.std.proofs.lemmas.List.{take-append-le}
-use Rattle.std.specs.Io.KnownBytes.{Appends, Consumes, IsAtEnd}
+use Rattle.std.specs.Io.KnownBytes.{Consumes}
 use Rattle.svr_base.proofs.Prefixes.{AppendsPrefix-of_parts}
-use Rattle.record_stream.specs.Lines.{records_of, whole_records}
+use Rattle.record_stream.specs.Lines.{records_of}
 use Rattle.record_stream.specs.Course.{Course}
 use Rattle.record_stream.specs.Ends.{EndsOver, ended_for, limit}
 use Rattle.record_stream.specs.Steps.{EndsAfter}

@@ -1,5 +1,5 @@
 -- What a player writes, said for whatever records follow.
-use Rattle.std.specs.Prelude.{ℕ, ◌≡◌, Bool, List, [], ◌++◌, Option, Some, None, Result, Ok, Err}
+use Rattle.std.specs.Prelude.{ℕ, ◌≡◌, Bool, List, ◌++◌, Option, Some, Result, Ok, Err}
 use Rattle.std.specs.Io.KnownBytes.{Appends}
 use Rattle.svr_base.specs.Streams.{AppendsPrefix}
 use Rattle.record_stream.specs.Lines.{Record}

@@ -1,17 +1,24 @@
 //! Lines that mean nothing to a reader of records but by their commas are cut without one.
-ghost use Rattle.std.specs.Prelude.{◌≡◌, [], true, IsTrue, IfOk, IfSome};
+ghost use Rattle.std.specs.Prelude.{◌≡◌, [], true, IsTrue, OnOk, IfSome};
 ghost use Rattle.csv.specs.Records.{fields_of};
 ghost use Rattle.record_stream.specs.Plain as spec;
 
 use csv::ByteRecord;
 use memchr::{memchr, memchr3};
-use std::alloc::{AllocError, Global};
+use std::alloc::AllocError;
+
+/// Whether bytes mean nothing but themselves, commas and line feeds.
+pub fn is_quiet(piece: &[u8]) -> bool
+    ensures { IsTrue result → (spec.is_quiet piece.now ≡ true) }
+{
+    memchr3(b'\r', b'"', 0xEF, piece).is_none()
+}
 
 /// Whether bytes mean nothing but themselves and commas.
 fn is_plain(body: &[u8]) -> bool
     ensures { IsTrue result → (spec.is_plain body.now ≡ true) }
 {
-    memchr3(b'\r', b'"', 0xEF, body).is_none() && memchr(b'\n', body).is_none()
+    is_quiet(body) && memchr(b'\n', body).is_none()
 }
 
 /// A plain line without what ends it.
@@ -26,11 +33,11 @@ pub fn plain_body(line: &[u8]) -> Option<&[u8]>
     if is_plain(body) { Some(body) } else { None }
 }
 
-/// The record of the fields between the commas.
-pub fn split_at_commas(alloc: Global, body: &[u8]) -> Result<ByteRecord, AllocError>
-    ensures { IfOk result (λ row. fields_of row ≡ spec.cells [] body.now) }
+/// Makes a record of the fields between the commas.
+pub fn split_at_commas(row: &mut ByteRecord, body: &[u8]) -> Result<(), AllocError>
+    ensures { OnOk result (fields_of row.new ≡ spec.cells [] body.now) }
 {
-    let mut row = ByteRecord::new(alloc);
+    row.clear();
     let mut start = 0;
     while let Some(at) = memchr(b',', &body[start..]) {
         let end = start + at;
@@ -38,5 +45,5 @@ pub fn split_at_commas(alloc: Global, body: &[u8]) -> Result<ByteRecord, AllocEr
         start = end + 1;
     }
     row.push_field(&body[start..])?;
-    Ok(row)
+    Ok(())
 }

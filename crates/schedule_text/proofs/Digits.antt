@@ -1,9 +1,9 @@
 -- Digits, and the value that they go on to from another.
-use Rattle.std.proofs.Common.{arith, refl, sym, ap, ◌∙◌, ◌≡◌, ◌+◌, ◌-◌, ◌*◌, ◌<◌, ◌≤◌, ℕ, List, [], ◌∷◌, length, drop, get_or, drop-cons, add-one, fold, Bool, true, false}
+use Rattle.std.proofs.Common.{arith, refl, ◌≡◌, ◌+◌, ◌-◌, ◌*◌, ◌<◌, ◌≤◌, ℕ, List, [], ◌∷◌, length, drop, get_or, drop-cons, add-one, fold, Bool}
 use Rattle.std.specs.Char.{is_ascii_digit}
 use Rattle.std.specs.List.{list_all}
 use Rattle.std.proofs.lemmas.Bool.{ne_eqb}
-use Rattle.schedule_model.specs.Reading.{is_number, value_of_digits}
+use Rattle.schedule_model.specs.Reading.{is_number}
 
 -- a text of at least two bytes
 pub of_two : (text : List ℕ) (all : Bool) → 2 ≤ length text → (get_or text 0 0 ≡ 48 → ⊥) → all ≡ list_all is_ascii_digit text → all ≡ is_number text

@@ -1,8 +1,8 @@
 -- A line of a first field and more.
-use Rattle.std.proofs.Common.{refl, sym, ap, ◌∙◌, ◌≡◌, ℕ, List, [], ◌∷◌, ◌++◌, append-nil, append_assoc, codes}
+use Rattle.std.proofs.Common.{sym, ap, ◌∙◌, ◌≡◌, ℕ, List, [], ◌∷◌, ◌++◌, append-nil, append_assoc, codes}
 use Rattle.std.specs.List.{join_with_byte}
 use Rattle.schedule_model.specs.Lines.{Line, line_text}
-use Rattle.schedule_text.specs.Joined.{after_comma, after_commas}
+use Rattle.schedule_text.specs.Joined.{after_commas}
 
 join : (field : List ℕ) (fields : Line) → join_with_byte 44 (field ∷ fields) ≡ field ++ after_commas fields
 join field [] = sym (append-nil field)

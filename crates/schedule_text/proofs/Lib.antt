@@ -2,3 +2,5 @@ pub mod Fields
 pub mod Digits
 pub mod Clients
 pub mod Joins
+pub mod Hexadecimals
+pub mod Statuses

@@ -5,10 +5,10 @@ ghost use Rattle.schedule_model.specs.Reading as spec;
 ghost use Rattle.schedule_text.specs.Read.{Reads};
 
 use crate::fault::{RecordFault, Unread};
+use crate::hexadecimal::{decode, decode_into};
 use crate::number::number_of;
 use csv::ByteRecord;
-use hex::{FromHex, FromHexError};
-use std::alloc::Global;
+use std::alloc::AllocError;
 use svr_base::{Bytes, Cause, ClientId};
 
 /// Field `k` of a record, from 1, and no bytes where it has none.
@@ -30,15 +30,16 @@ pub fn number_at(row: &ByteRecord, k: usize, low: u64, high: u64) -> Result<u64,
     number_of(field(row, k), k, low, high)
 }
 
-/// Field `k` of a record, from 1, as the bytes of its hexadecimal, in either case.
-pub fn hex_at(alloc: Global, row: &ByteRecord, k: usize) -> Result<Bytes, Unread>
+/// Field `k` of a record, from 1, as the bytes of its hexadecimal, in either case. The bytes stand in `bytes`,
+/// whose room is used again.
+pub fn hex_at(mut bytes: Vec<u8>, row: &ByteRecord, k: usize) -> Result<Bytes, Unread>
     requires { 1 ≤ k }
     ensures { Reads result (spec.hex_at (fields_of row.now) k) }
 {
-    match hex::decode(alloc, field(row, k)) {
-        Ok(bytes) => Ok(Bytes::from(bytes)),
-        Err(FromHexError::OutOfMemory) => Err(Unread::Memory),
-        Err(_) => Err(Unread::Fault(RecordFault::new(Cause::Hex, k))),
+    match decode(field(row, k), &mut bytes) {
+        Ok(true) => Ok(Bytes::from(bytes)),
+        Ok(false) => Err(Unread::Fault(RecordFault::new(Cause::Hex, k))),
+        Err(AllocError) => Err(Unread::Memory),
     }
 }
 
@@ -47,8 +48,11 @@ pub fn client_at(row: &ByteRecord, k: usize) -> Result<ClientId, RecordFault>
     requires { 1 ≤ k }
     ensures { result ≡ spec.client_at (fields_of row.now) k }
 {
-    match <[u8; 16]>::from_hex(field(row, k)) {
-        Ok(bytes) => Ok(ClientId(bytes)),
-        Err(_) => Err(RecordFault::new(Cause::Hex, k)),
+    let text = field(row, k);
+    let mut id = [0; 16];
+    if text.len() == 32 && decode_into(text, &mut id) {
+        Ok(ClientId(id))
+    } else {
+        Err(RecordFault::new(Cause::Hex, k))
     }
 }

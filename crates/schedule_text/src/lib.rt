@@ -3,6 +3,7 @@
 
 mod fault;
 mod field;
+mod hexadecimal;
 mod line;
 mod number;
 mod reply;

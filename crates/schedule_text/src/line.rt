@@ -4,6 +4,7 @@ ghost use Rattle.schedule_model.specs.Lines as spec;
 ghost use Rattle.schedule_text.specs.Joined.{after_comma};
 
 use crate::fault::RecordFault;
+use crate::hexadecimal::push_digits;
 use itoa::Buffer;
 use std::alloc::{AllocError, Global};
 use svr_base::{Cause, Part};
@@ -29,9 +30,8 @@ pub fn push_field(line: &mut Vec<u8>, field: &[u8]) -> Result<(), AllocError>
 pub fn push_hex(line: &mut Vec<u8>, bytes: &[u8]) -> Result<(), AllocError>
     ensures { OnOk result (line.new.items ≡ line.old.items ++ after_comma (spec.hex bytes.now)) }
 {
-    let alloc = *line.allocator();
-    let text = hex::encode(alloc, bytes)?;
-    push_field(line, text.as_bytes())
+    line.push(b',')?;
+    push_digits(line, bytes)
 }
 
 fn cause_word(cause: Cause) -> &'static str

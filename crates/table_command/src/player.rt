@@ -1,12 +1,14 @@
 //! The player of a table's records.
 ghost use Rattle.std.specs.Prelude.{◌≡◌, ◌≤◌, ◌<◌, ◌+◌, ◌++◌, ◌^◌, IfOk, OnOk};
+ghost use Rattle.csv.specs.Records.{fields_of};
 ghost use Rattle.svr_base.specs.Causes.{HasCauseAt};
 ghost use Rattle.record_stream.specs.Course.{Writes};
 ghost use Rattle.record_table.specs.declared.store.TheConstants.{MOST_ROWS};
 ghost use Rattle.record_table.specs.Table.{empty_table};
 ghost use Rattle.schedule_model.specs.Lines.{line_text, stopped_at_limit, stopped_at_record, Events};
 ghost use Rattle.schedule_text.specs.Joined.{after_commas};
-ghost use Rattle.trace_model.specs.TableText.{row_line, rows_line};
+ghost use Rattle.schedule_text.specs.Read.{Reads};
+ghost use Rattle.trace_model.specs.TableText.{row_line, rows_line, table_record};
 ghost use Rattle.table_command.specs.Course.{after_ask, course_from, outcome};
 ghost use Rattle.table_command.specs.Openings.{nothing_from, unstopped_from};
 
@@ -21,13 +23,11 @@ use schedule_text::{
 };
 use std::alloc::Global;
 use std::marker::Model;
+use std::mem::replace;
 use svr_base::{Memory, Sink, write_all};
 
 /// The most records that are applied.
 const MOST_RECORDS: u64 = 1_000_000;
-
-/// Room for most lines, so that one allocation serves each.
-const ROOM: usize = 160;
 
 /// One record table, and how many records were applied to it. Contracts see both.
 #[derive(Drop)]
@@ -35,6 +35,10 @@ pub struct TablePlayer {
     alloc: Global,
     table: Table,
     records: u64,
+    /// Where the bytes of each request stand in turn.
+    request: Vec<u8>,
+    /// Where each line stands in turn.
+    line: Vec<u8>,
 }
 
 impl Model for TablePlayer {
@@ -75,7 +79,18 @@ impl TablePlayer {
             alloc,
             table: Table::new(alloc, limit),
             records: 0,
+            request: Vec::new(alloc),
+            line: Vec::new(alloc),
         }
+    }
+
+    /// What a record asks. Its bytes stand where those of the record before it stood.
+    fn read(&mut self, row: &ByteRecord) -> Result<TableRecord, Unread>
+        ensures reads { Reads result (table_record (fields_of row.now)) }
+        ensures same { self.new ≡ self.old }
+    {
+        let request = replace(&mut self.request, Vec::new(self.alloc));
+        read_record(request, row)
     }
 
     /// Applies a request, and gives its line.
@@ -84,22 +99,25 @@ impl TablePlayer {
         ensures line { IfOk result (λ line. line.items ≡ row_line self.old (outcome self.old.table ask.now).1) }
         ensures after { OnOk result (self.new ≡ record self.old { table = (outcome self.old.table ask.now).0 }) }
     {
-        let mut line = Vec::with_capacity(self.alloc, ROOM)?;
+        let mut line = replace(&mut self.line, Vec::new(self.alloc));
+        line.clear();
         push_number(&mut line, self.records + 1)?;
         push_outcome(&mut line, self.alloc, &mut self.table, ask)?;
         line.push(b'\n')?;
         Ok(line)
     }
 
-    /// Plays a request, and writes its line.
-    fn ask<K: Sink>(&mut self, ask: &TableRecord, sink: &mut K) -> Result<(), Unwritten>
+    /// Plays a request, and writes its line. The room of both is kept for the next.
+    fn ask<K: Sink>(&mut self, ask: TableRecord, sink: &mut K) -> Result<(), Unwritten>
         requires { self.old.records < 2 ^ 62 }
-        ensures writes { Writes (row_line self.old (outcome self.old.table ask.now).1) (K.taken sink.old) (K.taken sink.new) result }
-        ensures after { OnOk result (self.new ≡ after_ask self.old ask.now) }
+        ensures writes { Writes (row_line self.old (outcome self.old.table ask).1) (K.taken sink.old) (K.taken sink.new) result }
+        ensures after { OnOk result (self.new ≡ after_ask self.old ask) }
         ensures cause { HasCauseAt Unwritten.WriteFault (K.faults sink.old) (K.faults sink.new) result }
     {
-        let line = self.answer(ask)?;
+        let line = self.answer(&ask)?;
         write_all(sink, line.as_slice())?;
+        self.line = line;
+        self.request = ask.request.into_vec();
         self.records += 1;
         Ok(())
     }
@@ -153,7 +171,7 @@ impl Player for TablePlayer {
     ghost count = { λ p. p.records };
 
     fn play<K: Sink>(&mut self, row: &ByteRecord, sink: &mut K) -> Result<(), Stop<Stopped>> {
-        let ask = match read_record(self.alloc, row) {
+        let ask = match self.read(row) {
             Ok(ask) => ask,
             Err(Unread::Memory) => return Err(Stop::Memory),
             Err(Unread::Fault(fault)) => {
@@ -165,7 +183,7 @@ impl Player for TablePlayer {
             self.stop_at_limit(sink)?;
             return Err(Stop::Stopped(Stopped::AtLimit));
         }
-        self.ask(&ask, sink)?;
+        self.ask(ask, sink)?;
         Ok(())
     }
 

@@ -5,7 +5,6 @@ ghost use Rattle.trace_model.specs.TableText.{table_record};
 
 use csv::ByteRecord;
 use schedule_text::{RecordFault, Unread, client_at, hex_at, number_at};
-use std::alloc::Global;
 use std::marker::Model;
 use svr_base::{Bytes, Cause, ClientId};
 
@@ -25,8 +24,9 @@ impl Model for TableRecord {
     ghost view = { λ r. record { client = r.client; number = r.number; request = r.request } };
 }
 
-/// What a record asks: it has three fields, a client, a number and the hexadecimal of a request's bytes.
-pub fn read_record(alloc: Global, row: &ByteRecord) -> Result<TableRecord, Unread>
+/// What a record asks: it has three fields, a client, a number and the hexadecimal of a request's bytes. The bytes
+/// stand in `request`, whose room is used again.
+pub fn read_record(request: Vec<u8>, row: &ByteRecord) -> Result<TableRecord, Unread>
     ensures { Reads result (table_record (fields_of row.now)) }
 {
     if row.len() != 3 {
@@ -34,7 +34,7 @@ pub fn read_record(alloc: Global, row: &ByteRecord) -> Result<TableRecord, Unrea
     }
     let client = client_at(row, 1)?;
     let number = number_at(row, 2, 0, u64::MAX)?;
-    let request = hex_at(alloc, row, 3)?;
+    let request = hex_at(request, row, 3)?;
     Ok(TableRecord {
         client,
         number,

@@ -1,4 +1,4 @@
-use Rattle.std.proofs.Common.{Bor, List, ℕ, arith, ap, ◌≡◌, ◌∙◌, ◌+◌, ◌++◌, sym, refl, inl, inr, Some, ◌∷◌, [], Err, length, length-append}
+use Rattle.std.proofs.Common.{Bor, List, ℕ, arith, ap, ◌∙◌, ◌++◌, sym, refl, inl, inr, Some, ◌∷◌, [], Err, length-append}
 use Rattle.std.proofs.KnownBytes.{Appends-nil, Appends-trans}
 use Rattle.std.proofs.lemmas.Result.{err_from_is_err_and}
 use Rattle.csv.specs.Reading.{Reached, default_config, strip_bom}

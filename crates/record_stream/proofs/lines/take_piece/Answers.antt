@@ -1,4 +1,4 @@
-use Rattle.std.proofs.Common.{arith, rules, sym, ap, ◌∙◌, ◌≡◌, ◌+◌, ◌++◌, ◌∷◌, [], Err, true, drop, take, slice_range}
+use Rattle.std.proofs.Common.{arith, rules, sym, ap, ◌∙◌, ◌≡◌, ◌+◌, ◌++◌, [], Err, true, drop, take, slice_range}
 use Rattle.std.specs.Result.{is_ok}
 use Rattle.std.proofs.KnownBytes.{Appends-nil, Appends-trans}
 use Rattle.std.proofs.lemmas.List.{length-drop, take_rest}
@@ -6,8 +6,7 @@ use Rattle.std.proofs.lemmas.Result.{err_from_is_err_and}
 use Rattle.record_stream.specs.Lines.{last_part, line_records, records_after}
 use Rattle.record_stream.proofs.Courses.{begins_with, goes_none, goes_then, plays_then, stops_in}
 use Rattle.record_stream.proofs.Cuts.{last_part-none, records_after-none, records_after-split}
-use Rattle.record_stream.proofs.Faults.{cause_passed}
-use Rattle.record_stream.proofs.Found.{end_part, end_records, found_at, found_none, next_part, next_records}
+use Rattle.record_stream.proofs.Found.{end_part, end_records, fed_line, found_at, found_none, next_part, next_records}
 use Rattle.record_stream.proofs.lines.take_piece.Goals as goal
 
 pub loop-at-init : goal.loop-at-init
@@ -80,3 +79,11 @@ returns-clause-rest g c =
     let good : is_ok c.extend_from_slice.result ≡ true = search rules in
     let items = rw (good, take_rest piece start) at c.extend_from_slice.ensures.items in
     items ∙ ap (λ l. l ++ drop start piece) c.loop-at.invariant.rest ∙ end_part begun piece start lacks
+
+pub take_line-requires-clause-fed : goal.take_line-requires-clause-fed
+take_line-requires-clause-fed g c = λ fed.
+    let piece = c.args.piece.now in
+    let start = c.loop-at.start in
+    let at = c.in-Some.at in
+    let (lt, lacks, feed) = found_at 10 (drop start piece) c.memchr.result at (rw (take_rest piece start) at c.memchr.ensures) c.in-Some.is in
+    fed_line piece start at (c.is_quiet-is_fed.ensures fed) lt lacks feed

@@ -1,7 +1,6 @@
-use Rattle.std.proofs.Common.{arith, sym, ap, ◌∙◌, ◌≡◌, ◌+◌, ◌++◌, ◌∷◌, [], length, drop}
+use Rattle.std.proofs.Common.{arith, sym, ap, ◌∙◌, ◌++◌, [], drop}
 use Rattle.std.proofs.lemmas.List.{length-drop, take_rest}
 use Rattle.csv.specs.Records.{fields_of}
-use Rattle.record_stream.specs.Plain.{cells}
 use Rattle.record_stream.proofs.Found.{found_at, found_none, next_cells, one_cell}
 use Rattle.record_stream.proofs.plain.split_at_commas.Goals as goal
 

@@ -1,4 +1,4 @@
-use Rattle.std.proofs.Common.{arith, ap, sym, ◌∙◌, ◌≡◌, ◌≤◌, ◌++◌, [], Err, length, take, drop, min, length-append, append-nil, append_assoc}
+use Rattle.std.proofs.Common.{arith, ap, ◌∙◌, ◌≤◌, ◌++◌, [], Err, length, take, drop, min, length-append, append-nil, append_assoc}
 use Rattle.std.proofs.lemmas.List.{length-take, length-take-le}
 use Rattle.std.proofs.KnownBytes.{Consumes-kept, Consumes-nil, Consumes-trans}
 use Rattle.svr_base.proofs.Rises.{Rose-after}

@@ -1,7 +1,13 @@
 use Rattle.std.proofs.Common.{ap, sym, ◌∙◌, Err}
 use Rattle.csv.specs.Records.{fields_of}
-use Rattle.schedule_text.proofs.Clients.{no_client}
+use Rattle.schedule_text.proofs.Clients.{no_client_digits, no_client_size}
 use Rattle.schedule_text.proofs.field.client_at.Goals as goal
+use Rattle.schedule_text.proofs.field.client_at.Goals.{else-text-eq32-via-then-text-eq32+else-decode_into, else-text-eq32-via-else-text-eq32}
 
-pub returns-in-Err : goal.returns-in-Err
-returns-in-Err c = ap Err c.new.ensures ∙ sym (no_client (fields_of c.args.row.now) c.args.k c.in-Err.field-0 (rw (← c.field.ensures) (sym c.from_hex.ensures ∙ c.in-Err.is)))
+pub returns-else-text-eq32 : goal.returns-else-text-eq32
+returns-else-text-eq32 c = elim c.else-text-eq32.branch [
+  | else-text-eq32-via-then-text-eq32+else-decode_into w ↦
+      ap Err c.new.ensures ∙ sym (no_client_digits (fields_of c.args.row.now) c.args.k (rw c.field-text.ensures at w.if-text-eq32.true) (rw c.field-text.ensures at w.if-decode_into.ensures))
+  | else-text-eq32-via-else-text-eq32 w ↦
+      ap Err c.new.ensures ∙ sym (no_client_size (fields_of c.args.row.now) c.args.k (rw c.field-text.ensures at w.if-text-eq32.false))
+]

@@ -1,4 +1,4 @@
-use Rattle.std.proofs.Common.{rules, sym, ◌∙◌, codes, decimal, ◌≡◌, List, [], ◌∷◌, ◌++◌}
+use Rattle.std.proofs.Common.{rules, sym, ◌∙◌, codes, decimal, ◌≡◌, [], ◌∷◌, ◌++◌}
 use Rattle.schedule_model.specs.Lines.{cause_word}
 use Rattle.schedule_text.proofs.Joins.{stopped_parts}
 use Rattle.schedule_text.proofs.line.record_line.Goals as goal

@@ -1,4 +1,4 @@
-use Rattle.std.proofs.Common.{arith, ◌≡◌, ◌+◌, ◌-◌, ◌*◌, ◌≤◌, ◌∙◌, ◌^◌, get_or, drop}
+use Rattle.std.proofs.Common.{arith, ◌+◌, ◌-◌, ◌*◌, ◌≤◌, ◌∙◌, ◌^◌, get_or, drop}
 use Rattle.schedule_model.specs.Reading.{value_of_digits}
 use Rattle.schedule_text.proofs.Digits.{least, next}
 use Rattle.schedule_text.proofs.number.value_of.Goals as goal
