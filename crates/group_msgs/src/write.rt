@@ -1,0 +1,227 @@
+//! Writing peer messages.
+
+ghost use Rattle.std.specs.Prelude.{◌≡◌, ◌≤◌, ◌++◌, length, All, IfOk, OnOk};
+ghost use Rattle.proto_wire.specs.Written.{block_field};
+ghost use Rattle.group_msgs.specs.Canonical as canonical;
+ghost use Rattle.group_msgs.specs.Ranges.{IsInRange, IsEntryInRange};
+
+use byteorder::{BigEndian, ByteOrder};
+use group_quorum::MAX_VOTERS;
+use proto_wire::FieldWriter;
+use std::alloc::Global;
+use svr_base::{Body, Bytes, Kept, LogEntry, Memory, PeerMsg, Point, Row, TablePart};
+
+/// Room for a member of sixteen backups, so that one allocation serves.
+const MEMBER_ROOM: usize = 2048;
+/// Room for an entry or a row.
+const ITEM_ROOM: usize = 192;
+
+/// The canonical bytes of a message: rising field numbers, shortest varints, defaults left out.
+pub fn write_peer(alloc: Global, msg: &PeerMsg) -> Result<Bytes, Memory>
+    requires { IsInRange msg.now }
+    ensures { IfOk result (λ bytes. bytes ≡ canonical.canonical_peer msg.now) }
+{
+    match peer_bytes(alloc, msg) {
+        Ok(bytes) => Ok(Bytes::from(bytes)),
+        Err(proto_wire::Memory) => Err(Memory),
+    }
+}
+
+fn peer_bytes(alloc: Global, msg: &PeerMsg) -> Result<Vec<u8>, proto_wire::Memory>
+    requires { IsInRange msg.now }
+    ensures { IfOk result (λ bytes. bytes.items ≡ canonical.canonical_peer msg.now) }
+{
+    let mut fields = FieldWriter::with_capacity(alloc, MEMBER_ROOM)?;
+    let (term, number) = put_member(alloc, &mut fields, msg)?;
+    let member = fields.finish();
+    let mut message = FieldWriter::with_capacity(alloc, member.len() + 32)?;
+    message.varint(1, term)?;
+    message.message(number, &member)?;
+    Ok(message.finish())
+}
+
+/// Writes the fields of the message's member, and answers its term and its member's number.
+fn put_member(
+    alloc: Global,
+    fields: &mut FieldWriter,
+    msg: &PeerMsg,
+) -> Result<(u64, u32), proto_wire::Memory>
+    requires { IsInRange msg.now }
+    ensures head { IfOk result (λ head. (head.0 ≡ canonical.term_of msg.now) × (head.1 ≡ canonical.member_number msg.now)) }
+    ensures fields { OnOk result (fields.new ≡ fields.old ++ canonical.member_fields msg.now) }
+{
+    match msg {
+        PeerMsg::AskVote {
+            term,
+            last_index,
+            last_term,
+        } => {
+            fields.varint(1, *last_index)?;
+            fields.varint(2, *last_term)?;
+            Ok((*term, 2))
+        }
+        PeerMsg::Vote { term, granted } => {
+            fields.varint(1, u64::from(*granted))?;
+            Ok((*term, 3))
+        }
+        PeerMsg::Append {
+            term,
+            prev,
+            entries,
+            promise,
+            commit,
+        } => {
+            put_point(fields, prev)?;
+            put_entries(alloc, fields, entries.as_slice())?;
+            fields.varint(4, *promise)?;
+            fields.varint(5, *commit)?;
+            Ok((*term, 4))
+        }
+        PeerMsg::Accepted {
+            term,
+            end,
+            promised,
+        } => {
+            put_point(fields, end)?;
+            fields.varint(3, *promised)?;
+            Ok((*term, 5))
+        }
+        PeerMsg::Rejected { term, asked, hint } => {
+            fields.varint(1, *asked)?;
+            fields.varint(2, *hint)?;
+            Ok((*term, 6))
+        }
+        PeerMsg::Part { term, part } => {
+            put_part(alloc, fields, part)?;
+            Ok((*term, 7))
+        }
+        PeerMsg::PartTaken { term, point, next } => {
+            put_point(fields, point)?;
+            fields.varint(3, u64::from(*next))?;
+            Ok((*term, 8))
+        }
+    }
+}
+
+fn put_part(
+    alloc: Global,
+    fields: &mut FieldWriter,
+    part: &TablePart,
+) -> Result<(), proto_wire::Memory>
+    requires { length part.now.voters ≤ MAX_VOTERS }
+    ensures { OnOk result (fields.new ≡ fields.old ++ canonical.part_fields part.now) }
+{
+    put_point(fields, &part.point)?;
+    put_config(fields, part)?;
+    put_counts(fields, part)?;
+    put_rows(alloc, fields, part.rows.as_slice())
+}
+
+fn put_config(fields: &mut FieldWriter, part: &TablePart) -> Result<(), proto_wire::Memory>
+    requires { length part.now.voters ≤ MAX_VOTERS }
+    ensures { OnOk result (fields.new ≡ fields.old ++ canonical.config_fields part.now) }
+{
+    fields.varint(3, part.last_term)?;
+    fields.varint(4, part.conf_index)?;
+    fields.varint(5, u64::from(part.margin))?;
+    put_voters(fields, part.voters.as_slice())
+}
+
+fn put_counts(fields: &mut FieldWriter, part: &TablePart) -> Result<(), proto_wire::Memory>
+    ensures { OnOk result (fields.new ≡ fields.old ++ canonical.count_fields part.now) }
+{
+    fields.varint(7, u64::from(part.limit))?;
+    fields.varint(8, u64::from(part.part))?;
+    fields.varint(9, u64::from(part.parts))
+}
+
+fn put_entries(
+    alloc: Global,
+    fields: &mut FieldWriter,
+    entries: &[LogEntry],
+) -> Result<(), proto_wire::Memory>
+    requires { All IsEntryInRange entries.now }
+    ensures { OnOk result (fields.new ≡ fields.old ++ canonical.entries_field entries.now) }
+{
+    for entry in entries {
+        let mut item = FieldWriter::with_capacity(alloc, ITEM_ROOM)?;
+        put_entry(&mut item, entry)?;
+        fields.message(3, &item.finish())?;
+    }
+    Ok(())
+}
+
+fn put_entry(fields: &mut FieldWriter, entry: &LogEntry) -> Result<(), proto_wire::Memory>
+    requires { IsEntryInRange entry.now }
+    ensures { OnOk result (fields.new ≡ fields.old ++ canonical.entry_fields entry.now) }
+{
+    fields.varint(1, entry.term)?;
+    match &entry.body {
+        Body::Noop => Ok(()),
+        Body::Ask {
+            client,
+            number,
+            request,
+        } => {
+            fields.varint(2, 1)?;
+            fields.block(3, &client.0)?;
+            fields.varint(4, *number)?;
+            fields.block(5, request.as_slice())
+        }
+        Body::Members { margin, voters } => {
+            fields.varint(2, 2)?;
+            put_voters(fields, voters.as_slice())?;
+            fields.varint(7, u64::from(*margin))
+        }
+    }
+}
+
+fn put_rows(alloc: Global, fields: &mut FieldWriter, rows: &[Row]) -> Result<(), proto_wire::Memory>
+    ensures { OnOk result (fields.new ≡ fields.old ++ canonical.rows_field rows.now) }
+{
+    for row in rows {
+        let mut item = FieldWriter::with_capacity(alloc, ITEM_ROOM)?;
+        put_row(&mut item, row)?;
+        fields.message(10, &item.finish())?;
+    }
+    Ok(())
+}
+
+fn put_row(fields: &mut FieldWriter, row: &Row) -> Result<(), proto_wire::Memory>
+    ensures { OnOk result (fields.new ≡ fields.old ++ canonical.row_fields row.now) }
+{
+    fields.block(1, &row.client.0)?;
+    fields.varint(2, row.last)?;
+    match &row.kept {
+        Some(kept) => put_kept(fields, kept),
+        None => Ok(()),
+    }
+}
+
+fn put_kept(fields: &mut FieldWriter, kept: &Kept) -> Result<(), proto_wire::Memory>
+    ensures { OnOk result (fields.new ≡ fields.old ++ canonical.kept_fields (Some kept.now)) }
+{
+    fields.block(3, kept.secret.as_slice())?;
+    fields.block(4, &kept.pin.0)?;
+    fields.varint(5, u64::from(kept.left))?;
+    fields.varint(6, u64::from(kept.exposed))
+}
+
+/// Writes a point as the fields 1 and 2.
+fn put_point(fields: &mut FieldWriter, point: &Point) -> Result<(), proto_wire::Memory>
+    ensures { OnOk result (fields.new ≡ fields.old ++ canonical.point_fields point.now) }
+{
+    fields.varint(1, point.index)?;
+    fields.block(2, &point.hash.0)
+}
+
+/// Writes voters as field 6: four bytes each, the highest first.
+fn put_voters(fields: &mut FieldWriter, voters: &[u32]) -> Result<(), proto_wire::Memory>
+    requires { length voters.now ≤ MAX_VOTERS }
+    ensures { OnOk result (fields.new ≡ fields.old ++ block_field 6 (canonical.id_bytes voters.now)) }
+{
+    let mut bytes = [0; 4 * MAX_VOTERS];
+    let used = &mut bytes[..4 * voters.len()];
+    BigEndian::write_u32_into(voters, used);
+    fields.block(6, &bytes[..4 * voters.len()])
+}
