@@ -1,0 +1,4 @@
+pub mod Bytes
+pub mod Closing
+pub mod Laws
+pub mod Numbers
