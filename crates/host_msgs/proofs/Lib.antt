@@ -1,0 +1,6 @@
+mod Again
+mod Configurations
+mod Shorts
+mod Walks
+mod Whole
+mod Taken

@@ -1,0 +1,11 @@
+pub mod Refusals
+pub mod Wrapped
+pub mod Items
+pub mod Reading
+pub mod Batches
+pub mod Walking
+pub mod Contents
+pub mod Needs
+pub mod Grammar
+pub mod Again
+pub mod Listed

@@ -1,0 +1,54 @@
+//! One item of a batch.
+
+ghost use Rattle.host_msgs.specs.Items.{item_in};
+ghost use Rattle.host_msgs.specs.Reading.{Finds};
+
+use crate::answer::answer;
+use crate::commit::commit;
+use crate::plain::{halt, lead, saved, taken};
+use crate::refusal::refused;
+use crate::sent::sent;
+use crate::voters::members;
+use std::alloc::Global;
+use svr_base::{
+    Answer, Bytes, ClientId, Hash, Ids, LogEntry, Memory, PeerMsg, Point, Refusal, ReplicaId,
+};
+
+/// What an item says.
+#[derive(Drop)]
+pub enum Item {
+    Lead(u64),
+    Members(u64, u8, Ids),
+    Halt(u64, Hash, Hash),
+    Taken(Point),
+    Commit(u64, LogEntry),
+    Answer(ClientId, u64, Answer),
+    /// A message to a replica, with its sender and its frame.
+    Sent {
+        from: ReplicaId,
+        to: ReplicaId,
+        message: PeerMsg,
+        frame: Bytes,
+    },
+    Saved(u32),
+    Refused(Refusal),
+}
+
+/// The item that a content of this kind says, if it says one.
+#[tactic(auto, unfolding(crate::specs::Items::item_in))]
+pub fn read_item(alloc: Global, kind: u8, content: &[u8]) -> Result<Option<Item>, Memory>
+    ensures { Finds result (item_in kind content.now) }
+{
+    match kind {
+        1 => Ok(lead(content)),
+        2 => members(alloc, content),
+        3 => Ok(halt(content)),
+        4 => Ok(taken(content)),
+        5 => commit(alloc, content),
+        6 => answer(alloc, content),
+        7 => sent(alloc, content),
+        8 => Ok(saved(content)),
+        9 => Ok(refused(content)),
+        _ => Ok(None),
+    }
+}
