@@ -1,0 +1,6 @@
+mod Ascending
+mod Kept
+mod Filled
+mod Counts
+mod OfPath
+mod TrueParts

@@ -1,0 +1,3 @@
+pub mod SentTable
+pub mod TakenParts
+pub mod Taken
