@@ -1,0 +1,62 @@
+-- What a follower makes of an append.
+use Rattle.std.specs.Prelude.{◌≡◌, ℕ, min, max, Option, Some, None, List, [], ◌∷◌, IsSome}
+use Rattle.svr_base.specs.declared.entry.Point.{Point}
+use Rattle.svr_base.specs.declared.peer.PeerMsg.{PeerMsg}
+use Rattle.svr_base.specs.declared.peer.PeerMsg.TheVariants.{Accepted, Rejected}
+use Rattle.replica_model.specs.Path.{Path}
+use Rattle.replica_model.specs.Linked.{sha_link}
+use Rattle.replica_model.specs.Message.{Message, plain}
+use Rattle.replica_model.specs.Replica.{Replica}
+use Rattle.replica_model.specs.Graft.{Offer, first_difference, points_of, append_heard}
+use Rattle.replica_log.specs.declared.graft.Graft.{Graft}
+use Rattle.replica_log.specs.declared.graft.Graft.TheVariants.{Grafted, Apart, Conflict}
+use Rattle.replica_log.specs.Window.{Window, promised_to, committed_to}
+use Rattle.replica_log.specs.Grafting.{graft_of, after_graft}
+use Rattle.replica_log.specs.Models.{StandsFor}
+use Rattle.append_rules.specs.declared.take.Took.{Took}
+
+-- promised and committed rise up to the last index that was offered
+abbrev pub raised : Window → ℕ → ℕ → ℕ → Window
+raised w end promise commit = committed_to (promised_to w (min promise end)) (min commit (min promise end))
+
+-- the log after what came of the entries
+abbrev pub after_by : Window → Point → Path → ℕ → ℕ → Graft → Window
+after_by w prev entries promise commit (Grafted end cut) = raised (after_graft w prev entries (Grafted end cut)) end.index promise commit
+after_by w prev entries promise commit (Apart hint) = w
+after_by w prev entries promise commit (Conflict index kept offered) = w
+
+-- the log after an append
+abbrev pub after_offer : Window → Point → Path → ℕ → ℕ → Window
+after_offer w prev entries promise commit = after_by w prev entries promise commit (graft_of sha_link w prev entries)
+
+-- the answer: a graft is accepted up to its end, what stands apart is rejected with its hint, and a conflict halts
+abbrev pub took_by : Window → ℕ → Point → ℕ → Graft → Took
+took_by w term prev promise (Grafted end cut) =
+    record { reply = Some (Accepted term end (min (max w.promised (min promise end.index)) end.index)); cut = cut; halt = None }
+took_by w term prev promise (Apart hint) = record { reply = Some (Rejected term prev.index hint); cut = None; halt = None }
+took_by w term prev promise (Conflict index kept offered) = record { reply = None; cut = None; halt = Some (index, kept, offered) }
+
+-- the answer to an append
+abbrev pub took_of : Window → ℕ → Point → Path → ℕ → Took
+took_of w term prev entries promise = took_by w term prev promise (graft_of sha_link w prev entries)
+
+-- the replica's term, and the offer's parts
+pub record HasTerms (s : Replica) (o : Offer) (term : ℕ) (prev : Point) (entries : Path) (promise commit : ℕ) : Type 0 where
+  pub term_is : s.term ≡ term
+  pub prev_is : o.prev ≡ prev
+  pub entries_is : o.entries ≡ entries
+  pub promise_is : o.promise ≡ promise
+  pub commit_is : o.commit ≡ commit
+
+-- the reply as a message to the sender, if there is one
+abbrev pub sent_to : ℕ → Option PeerMsg → List (ℕ × Message)
+sent_to from None = []
+sent_to from (Some msg) = (from, plain msg) ∷ []
+
+-- the answer is that of the model's call, the log stands for the replica after it, and what was cut is the first
+-- difference
+pub record TakesOffer (s : Replica) (o : Offer) (w : Window) (took : Took) : Type 0 where
+  pub stands : StandsFor sha_link w (append_heard sha_link s o).state
+  pub halts : (append_heard sha_link s o).batch.halt ≡ took.halt
+  pub replies : (append_heard sha_link s o).sent ≡ sent_to o.from took.reply
+  pub cuts : IsSome took.cut → took.cut ≡ first_difference sha_link s (points_of sha_link o)
