@@ -1,0 +1,5 @@
+mod Upto
+mod Reaching
+mod Segments
+mod Stretch
+mod Standing

@@ -1,0 +1,44 @@
+//! Raising the promised and the committed index.
+ghost use Rattle.std.specs.Prelude.{◌≡◌, ℕ, nat_lt};
+ghost use Rattle.group_quorum.specs.Marks.{mark_of};
+ghost use Rattle.replica_model.specs.Linked.{sha_link};
+ghost use Rattle.replica_model.specs.Replica.{Leading};
+ghost use Rattle.replica_model.specs.Raise.{accepted_mark, promised_mark, promise_index, commit_index};
+ghost use Rattle.replica_log.specs.Window.{promised_to, committed_to};
+ghost use Rattle.replica_log.specs.Models.{OfEach, StandsFor};
+ghost use Rattle.promise_rules.specs.Raising.{promised_by, committed_by};
+
+use crate::greatest::greatest_enough;
+use replica_log::Log;
+
+/// Raises the promised index to the greatest index of an entry of the leader's term for which the voters' marks are
+/// enough, where that is higher, and answers whether it rose. A mark says up to where a voter has accepted the log; the
+/// leader's own is its last index. A voter without a mark has 0.
+pub fn raise_promise(log: &mut Log, term: u64, marks: &[(u32, u64)]) -> bool
+    ensures greatest { log.new ≡ promised_to log.old (promised_by log.old term marks.now) }
+    ensures rose { result ≡ nat_lt log.old.promised log.new.promised }
+    ensures model { OfEach sha_link log.old (λ s. (l : Leading) → s.term ≡ term
+        → ((v : ℕ) → mark_of marks.now v ≡ accepted_mark s l v)
+        → StandsFor sha_link log.new (record s { promised = promise_index s l })) }
+{
+    let had = log.promised();
+    let index = greatest_enough(log, Some(term), marks, had, log.last().index);
+    log.promise_to(index);
+    index > had
+}
+
+/// Raises the committed index to the greatest index up to the promised one for which what the voters have promised is
+/// enough, where that is higher, and answers whether it rose. The leader's own promise is one of them. A voter without
+/// one has promised nothing.
+pub fn raise_commit(log: &mut Log, promises: &[(u32, u64)]) -> bool
+    ensures greatest { log.new ≡ committed_to log.old (committed_by log.old promises.now) }
+    ensures rose { result ≡ nat_lt log.old.committed log.new.committed }
+    ensures model { OfEach sha_link log.old (λ s. (l : Leading)
+        → ((v : ℕ) → mark_of promises.now v ≡ promised_mark s l v)
+        → StandsFor sha_link log.new (record s { committed = commit_index s l })) }
+{
+    let had = log.committed();
+    let index = greatest_enough(log, None, promises, had, log.promised());
+    log.commit_to(index);
+    index > had
+}
