@@ -1,0 +1,2 @@
+mod RisingIds
+mod Changed
