@@ -1,0 +1,5 @@
+pub mod Calm
+pub mod Texts
+pub mod Reading
+pub mod Playing
+pub mod Told
