@@ -13,9 +13,6 @@ use Rattle.record_stream.specs.declared.player.Stop.TheVariants as stop
 pub goes_none : {R : Type 0} (a : Course R) → Goes a [] a []
 goes_none a = record { text = λ closed more. refl; reason = λ more. refl }
 
-pub begins_none : {R : Type 0} (a : Course R) (rs : List Record) → Begins a rs []
-begins_none a rs = record { text = λ closed more. (a.text closed (rs ++ more), refl) }
-
 pub goes_then : {R : Type 0} (a b c : Course R) (rs qs : List Record) (s t : List ℕ) → Goes a rs b s → Goes b qs c t → Goes a (rs ++ qs) c (s ++ t)
 goes_then a b c rs qs s t g h = record {
   text = λ closed more. rw (append_assoc rs qs more, g.text closed (qs ++ more), h.text closed more) (sym (append_assoc s t (c.text closed more)));
@@ -56,6 +53,9 @@ begins_more a rs qs t h = record { text = λ closed more. rw (append_assoc rs qs
 pub begins_with : {R : Type 0} (a b : Course R) (rs qs : List Record) (t : List ℕ) → Goes a rs b t → Begins a (rs ++ qs) t
 begins_with a b rs qs t g = record { text = λ closed more. (b.text closed (qs ++ more), rw (append_assoc rs qs more) (g.text closed (qs ++ more))) }
 
+pub begins_all : {R : Type 0} (a b : Course R) (rs : List Record) (t : List ℕ) → Goes a rs b t → Begins a rs t
+begins_all a b rs t g = record { text = λ closed more. (b.text closed more, g.text closed more) }
+
 -- where a record's text begins with some lines, and the sink gained first bytes of them, it gained first bytes of the text
 pub begins_prefix : {R : Type 0} (a : Course R) (rs : List Record) (lines : List ℕ) (x y : Option (List ℕ))
     → ((closed : Bool) (more : List Record) → (rest : List ℕ) × (a.text closed (rs ++ more) ≡ lines ++ rest)) → AppendsPrefix x y lines
@@ -87,8 +87,3 @@ stopped_in T a b c rs qs x y stop.WriteFault r is (t, k, l) = rw is (t, begins_m
 pub stops_in : {R T U : Type 0} (a b c : Course R) (rs qs : List Record) (x y : Option (List ℕ)) (e : Stop R) (q : Result T (Stop R)) (r : Result U (Stop R))
     → q ≡ Err e → r ≡ Err e → PlaysTo a rs b x y q → PlaysTo a (rs ++ qs) c x y r
 stops_in {T = T} a b c rs qs x y e q r was is h = stopped_in T a b c rs qs x y e r is (rw was at h)
-
--- the same, where nothing follows
-pub passes_on : {R T U : Type 0} (a b c : Course R) (rs : List Record) (x y : Option (List ℕ)) (e : Stop R) (q : Result T (Stop R)) (r : Result U (Stop R))
-    → q ≡ Err e → r ≡ Err e → PlaysTo a rs b x y q → PlaysTo a rs c x y r
-passes_on a b c rs x y e q r was is h = rw append-nil at (stops_in a b c rs [] x y e q r was is h)

@@ -46,27 +46,12 @@ pub last_part-feed : (p : List ℕ) → last_part p (10 ∷ []) ≡ []
 unfolding last_part
 last_part-feed p = refl
 
-pub records_after-byte : (p : List ℕ) (b : ℕ) → b ≢ 10 → records_after p (b ∷ []) ≡ []
-unfolding whole_lines
-records_after-byte p b ne = elim (eqb_tells b 10) [ inl y ↦ absurd (ne y.1) | inr n ↦ rw n.0 refl ]
-
-pub last_part-byte : (p : List ℕ) (b : ℕ) → b ≢ 10 → last_part p (b ∷ []) ≡ p ++ (b ∷ [])
-unfolding last_part
-last_part-byte p b ne = elim (eqb_tells b 10) [ inl y ↦ absurd (ne y.1) | inr n ↦ rw n.0 refl ]
-
 -- the records of the last line, where there is one
 pub last_records-some : (p : List ℕ) → p ≢ [] → last_records p ≡ line_records p
 last_records-some [] ne = absurd (ne refl)
 last_records-some (b ∷ bs) ne = refl
 
--- ---- a loop over bytes
-
-pub records_after-next : (p piece : List ℕ) (i : ℕ) → i < length piece
-    → records_after p (take (i + 1) piece) ≡ records_after p (take i piece) ++ records_after (last_part p (take i piece)) (get_or piece i 0 ∷ [])
-records_after-next p piece i lt = rw (take_more piece i 0 lt) (records_after-append p (take i piece) (get_or piece i 0 ∷ []))
-
-pub last_part-next : (p piece : List ℕ) (i : ℕ) → i < length piece → last_part p (take (i + 1) piece) ≡ last_part (last_part p (take i piece)) (get_or piece i 0 ∷ [])
-last_part-next p piece i lt = rw (take_more piece i 0 lt) (last_part-append p (take i piece) (get_or piece i 0 ∷ []))
+-- ---- bytes before a place and from it on
 
 pub records_after-split : (p piece : List ℕ) (i : ℕ) → records_after p piece ≡ records_after p (take i piece) ++ records_after (last_part p (take i piece)) (drop i piece)
 records_after-split p piece i = ap (records_after p) (sym (take-append-drop i piece)) ∙ records_after-append p (take i piece) (drop i piece)

@@ -20,11 +20,6 @@ use Rattle.record_stream.proofs.Cuts.{last_part-append, last_part-none, records_
 closed_text : {R : Type 0} (a b : Course R) (rs : List Record) (t : List ℕ) (closed : Bool) → Goes a rs b t → a.text closed rs ≡ t ++ b.text closed []
 closed_text a b rs t closed g = ap (a.text closed) (sym (append-nil rs)) ∙ g.text closed []
 
-pub finishes_done : {R : Type 0} (a b : Course R) (rs : List Record) (x y z : Option (List ℕ)) (t : List ℕ)
-    → b.reason [] ≡ None → Goes a rs b t → Appends x y t → Appends y z (b.text true []) → Finishes a rs x z ended.Done
-finishes_done a b rs x y z t none g h k =
-    (ap a.reason (sym (append-nil rs)) ∙ g.reason [] ∙ none, rw (closed_text a b rs t true g) (Appends-trans x y z t (b.text true []) h k))
-
 pub finishes_cut : {R : Type 0} (a b : Course R) (rs : List Record) (x y z : Option (List ℕ)) (t : List ℕ)
     → Goes a rs b t → Appends x y t → AppendsPrefix y z (b.text true []) → AppendsPrefix x z (a.text true rs)
 finishes_cut a b rs x y z t g h k = rw (closed_text a b rs t true g) (AppendsPrefix-after x y z t (b.text true []) h k)

@@ -1,9 +1,13 @@
 pub mod ReadRecords
 pub mod Courses
 pub mod Cuts
-pub mod Found
+pub mod Lacking
 pub mod Faults
 pub mod Endings
 pub mod Pieces
 pub mod Told
 pub mod PlainLines
+pub mod Walks
+pub mod Strides
+pub mod Lent
+pub mod Wholes

@@ -1,7 +1,6 @@
 -- What a reader makes of a plain line.
-use Rattle.std.proofs.Common.{arith, refl, sym, ap, ◌∙◌, ◌≡◌, ◌≢◌, ◌+◌, ◌-◌, ◌<◌, ◌≤◌, ◌⊎◌, ℕ, zero, suc, add-one, List, [], ◌∷◌, ◌++◌, length, take, drop, get_or, drop-cons, Some, Bool, true, false, not, ◌==◌, ◌&&◌, append_assoc, append-nil, inl, inr}
+use Rattle.std.proofs.Common.{arith, refl, sym, ap, ◌∙◌, ◌≡◌, ◌≢◌, ◌+◌, ◌-◌, ◌<◌, ◌≤◌, ◌⊎◌, ℕ, zero, suc, add-one, List, [], ◌∷◌, ◌++◌, length, take, drop, get_or, drop-cons, Option, Some, None, unwrap_or, slice_range, Bool, true, false, not, ◌==◌, ◌&&◌, append_assoc, append-nil, inl, inr}
 use Rattle.std.proofs.lemmas.Bool.{cases_Bool}
-use Rattle.std.proofs.lemmas.Bool.Decides.{eqb_tells}
 use Rattle.std.proofs.lemmas.List.{drop_all, length-drop, take_all}
 use Rattle.std.proofs.Math.Seq.{take-append_seam}
 use Rattle.csv.specs.Machine.{next_record, step}
@@ -10,7 +9,8 @@ use Rattle.csv.specs.declared.parser.Action.TheVariants as act
 use Rattle.csv.specs.declared.parser.State.{State}
 use Rattle.csv.specs.declared.parser.State.TheVariants as st
 use Rattle.record_stream.specs.Lines.{Record, line_records}
-use Rattle.record_stream.specs.Plain.{IsPlainLine, cells, is_plain, is_plain_byte, plain_records}
+use Rattle.record_stream.proofs.Lacking.{Lacks}
+use Rattle.record_stream.specs.Plain.{IsEndedLine, cells, is_plain, is_plain_byte, plain_records}
 
 -- the four tests of a plain byte
 record Plain (b : ℕ) : Type 0 where
@@ -108,48 +108,13 @@ records_plain end [] t rest ReturnFeed h = refl
 records_plain end (b ∷ bs) t rest e h =
     rw (no_mark b (bs ++ end) (first_plain b bs h).0, add-one, read_first end t rest e b bs h, none_left end t rest e (length ((b ∷ bs) ++ end))) refl
 
-by_end : (line body : List ℕ) → is_plain body ≡ true → (line ≡ body) ⊎ (line ≡ body ++ (10 ∷ [])) ⊎ (line ≡ body ++ (13 ∷ 10 ∷ [])) → line_records line ≡ plain_records body
-by_end line body h (inl e) = ap line_records (e ∙ sym (append-nil body)) ∙ records_plain [] body _ _ Nothing h
-by_end line body h (inr (inl e)) = ap line_records e ∙ records_plain (10 ∷ []) body _ _ Feed h
-by_end line body h (inr (inr e)) = ap line_records e ∙ records_plain (13 ∷ 10 ∷ []) body _ _ ReturnFeed h
+pub plain_line : (line body : List ℕ) → is_plain body ≡ true → IsEndedLine line body → line_records line ≡ plain_records body
+plain_line line body h (inl e) = ap line_records (e ∙ sym (append-nil body)) ∙ records_plain [] body _ _ Nothing h
+plain_line line body h (inr (inl e)) = ap line_records e ∙ records_plain (10 ∷ []) body _ _ Feed h
+plain_line line body h (inr (inr e)) = ap line_records e ∙ records_plain (13 ∷ 10 ∷ []) body _ _ ReturnFeed h
 
-pub some_plain : (body : List ℕ) → body ≢ [] → plain_records body ≡ cells [] body ∷ []
-some_plain [] ne = absurd (ne refl)
-some_plain (b ∷ bs) ne = refl
-
-pub plain_line : (line body : List ℕ) → IsPlainLine line body → line_records line ≡ plain_records body
-plain_line line body h = by_end line body h.plain h.ends
-
--- ---- a loop over the bytes
-
--- what has begun since the last comma
-pub begun_is : (body begun : List ℕ) (start i : ℕ) → drop start body ≡ begun ++ drop i body → length begun + start ≡ i → take (i - start) (drop start body) ≡ begun
-begun_is body begun start i parts size =
-    let n : i - start ≡ length begun = omega arith in
-    ap (λ (l : List ℕ). take (i - start) l) parts ∙ ap (λ (k : ℕ). take k (begun ++ drop i body)) n ∙ take-append_seam begun (drop i body)
-
-pub cells_comma : (body begun : List ℕ) (fields : Record) (i : ℕ) → i < length body → get_or body i 0 ≡ 44 → fields ++ cells begun (drop i body) ≡ cells [] body
-    → (fields ++ (begun ∷ [])) ++ cells [] (drop (i + 1) body) ≡ cells [] body
-unfolding cells
-cells_comma body begun fields i lt comma so_far =
-    rw (append_assoc fields (begun ∷ []) (cells [] (drop (i + 1) body)), add-one) (rw (drop-cons body i 0, comma) at so_far)
-
-pub cells_other : (body begun : List ℕ) (fields : Record) (i : ℕ) → i < length body → get_or body i 0 ≢ 44 → fields ++ cells begun (drop i body) ≡ cells [] body
-    → fields ++ cells (begun ++ (get_or body i 0 ∷ [])) (drop (i + 1) body) ≡ cells [] body
-unfolding cells
-cells_other body begun fields i lt other so_far = elim (eqb_tells (get_or body i 0) 44) [
-  | inl y ↦ absurd (other y.1)
-  | inr n ↦ rw add-one (rw (drop-cons body i 0, n.0) at so_far)
-]
-
-pub parts_other : (body begun : List ℕ) (start i : ℕ) → i < length body → drop start body ≡ begun ++ drop i body → drop start body ≡ (begun ++ (get_or body i 0 ∷ [])) ++ drop (i + 1) body
-parts_other body begun start i lt parts =
-    rw (append_assoc begun (get_or body i 0 ∷ []) (drop (i + 1) body), add-one, ← drop-cons body i 0 lt) parts
-
-pub cells_end : (body begun : List ℕ) (fields : Record) (i start : ℕ) → length body ≤ i → drop start body ≡ begun ++ drop i body → fields ++ cells begun (drop i body) ≡ cells [] body
-    → fields ++ (take (length body - start) (drop start body) ∷ []) ≡ cells [] body
-unfolding cells
-cells_end body begun fields i start le parts so_far =
-    let none = drop_all i body le in
-    let whole = take_all (length body - start) (drop start body) (omega (arith, length-drop start body)) in
-    rw (whole, parts, none, append-nil begun) (rw none at so_far)
+-- no line feed
+pub plain_lacks : (body : List ℕ) → is_plain body ≡ true → Lacks 10 body (length body)
+plain_lacks [] h k lt e = absurd (omega arith)
+plain_lacks (b ∷ bs) h zero lt e = cc (sym (first_plain b bs h).0.feed ∙ e)
+plain_lacks (b ∷ bs) h (suc k) lt e = plain_lacks bs (first_plain b bs h).1 k (omega arith) e

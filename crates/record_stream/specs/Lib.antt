@@ -3,3 +3,5 @@ pub mod Course
 pub mod Ends
 pub mod Steps
 pub mod Plain
+pub mod Walk
+pub mod Cut

@@ -1,11 +1,16 @@
 -- How bytes are cut into lines, and lines into records.
-use Rattle.std.specs.Prelude.{ℕ, ◌==◌, if◌then◌else◌, List, [], ◌∷◌, ◌++◌}
+use Rattle.std.specs.Borrow.{Bor}
+use Rattle.std.specs.Prelude.{ℕ, ◌==◌, if◌then◌else◌, List, [], ◌∷◌, ◌++◌, map}
 use Rattle.std.specs.List.{flat_map}
 use Rattle.csv.specs.Reading.{default_config, records, strip_bom}
 
 -- a record by its fields, and a field by its bytes
 abbrev pub Record : Type 0
 Record = List (List ℕ)
+
+-- the record of fields that are lent
+abbrev pub record_of : List (Bor (List ℕ)) → Record
+record_of fields = map (λ field. field.now) fields
 
 -- the whole lines of bytes, each with its line feed; the first of them has begun already
 unfoldable pub whole_lines : List ℕ → List ℕ → List (List ℕ)

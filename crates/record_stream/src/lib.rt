@@ -6,8 +6,10 @@
 //! want of memory can do to the text that is written.
 #![tactic(auto)]
 
+mod cutter;
+mod ends;
 mod lines;
-mod plain;
+mod marks;
 mod player;
 mod source;
 

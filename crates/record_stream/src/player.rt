@@ -1,11 +1,10 @@
 //! What plays records.
 ghost use Rattle.std.specs.Prelude.{◌≡◌, ◌∷◌, ◌+◌, ◌<◌, ◌^◌, ℕ, [], true, false, None, OnOk};
-ghost use Rattle.csv.specs.Records.{fields_of};
 ghost use Rattle.svr_base.specs.Causes.{HasCauseAt};
 ghost use Rattle.record_stream.specs.Course.{Course, PlaysTo, Writes, stop_by};
+ghost use Rattle.record_stream.specs.Lines.{record_of};
 ghost use Rattle.record_stream.specs.declared.player.Unwritten.TheVariants as unwritten;
 
-use csv::ByteRecord;
 use std::alloc::{AllocError, AllocFailed};
 use svr_base::{Failed, Memory, Sink};
 
@@ -83,10 +82,10 @@ pub trait Player {
     /// How many records it has played.
     ghost count: { Self → ℕ };
 
-    /// Plays one record and writes what it says.
-    fn play<K: Sink>(&mut self, row: &ByteRecord, sink: &mut K) -> Result<(), Stop<Self::Reason>>
+    /// Plays the record of these fields and writes what it says.
+    fn play<K: Sink>(&mut self, fields: &[&[u8]], sink: &mut K) -> Result<(), Stop<Self::Reason>>
         requires { count self.old < 2 ^ 62 }
-        ensures plays { PlaysTo (course self.old) (fields_of row.now ∷ []) (course self.new) (K.taken sink.old) (K.taken sink.new) result }
+        ensures plays { PlaysTo (course self.old) (record_of fields.now ∷ []) (course self.new) (K.taken sink.old) (K.taken sink.new) result }
         ensures counted { OnOk result (count self.new ≡ count self.old + 1) }
         ensures cause { HasCauseAt Stop.WriteFault (K.faults sink.old) (K.faults sink.new) result };
 

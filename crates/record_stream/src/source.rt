@@ -7,9 +7,8 @@ ghost use Rattle.record_stream.specs.Lines.{last_records, records_of};
 ghost use Rattle.record_stream.specs.Ends.{EndsOver, ended_for, limit};
 ghost use Rattle.record_stream.specs.Steps as spec;
 
-use crate::lines::{play_line, take_piece};
+use crate::lines::{play_alone, take_piece};
 use crate::player::{Player, Stop, Unwritten};
-use csv::ByteRecord;
 use std::alloc::Global;
 use svr_base::{Sink, Source};
 
@@ -51,7 +50,6 @@ fn ended_by<R>(stop: Stop<R>) -> Ended<R>
 fn play_last<P: Player, K: Sink>(
     alloc: Global,
     player: &mut P,
-    row: &mut ByteRecord,
     rest: &[u8],
     sink: &mut K,
 ) -> Result<(), Stop<P::Reason>>
@@ -62,14 +60,13 @@ fn play_last<P: Player, K: Sink>(
     if rest.is_empty() {
         return Ok(());
     }
-    play_line(alloc, player, row, rest, sink)
+    play_alone(alloc, player, rest, sink)
 }
 
 /// Plays what follows the last line feed, and writes the closing lines.
 fn finish<P: Player, K: Sink>(
     alloc: Global,
     player: &mut P,
-    row: &mut ByteRecord,
     rest: &[u8],
     sink: &mut K,
 ) -> Ended<P::Reason>
@@ -78,7 +75,7 @@ fn finish<P: Player, K: Sink>(
     ensures later { K.faults sink.old ≤ K.faults sink.new }
     ensures cause { result ≡ Ended.WriteFault → Rose (K.faults sink.old) (K.faults sink.new) }
 {
-    if let Err(stop) = play_last(alloc, player, row, rest, sink) {
+    if let Err(stop) = play_last(alloc, player, rest, sink) {
         return ended_by(stop);
     }
     match player.close(sink) {
@@ -106,7 +103,6 @@ fn play_pieces<P: Player, S: Source, K: Sink>(
     let Ok(mut buffer) = vec![in alloc; 0u8; PIECE] else {
         return Ended::Memory;
     };
-    let mut row = ByteRecord::new(alloc);
     let mut pending = Vec::new(alloc);
     let mut room = LIMIT;
     loop {
@@ -114,10 +110,10 @@ fn play_pieces<P: Player, S: Source, K: Sink>(
             return Ended::ReadFault;
         };
         if count == 0 {
-            return finish(alloc, player, &mut row, pending.as_slice(), sink);
+            return finish(alloc, player, pending.as_slice(), sink);
         }
         let piece = &buffer[..count.min(room)];
-        if let Err(stop) = take_piece(alloc, player, &mut row, &mut pending, piece, sink) {
+        if let Err(stop) = take_piece(alloc, player, &mut pending, piece, sink) {
             return ended_by(stop);
         }
         if count > room {

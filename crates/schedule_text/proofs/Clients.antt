@@ -6,34 +6,34 @@ use Rattle.hex.specs.Hex.{decode_of, decode_pairs}
 use Rattle.hex.specs.declared.error.FromHexError.{FromHexError}
 use Rattle.hex.proofs.HexLemmas.{decode_of-even, decode_of-ok}
 use Rattle.svr_base.specs.declared.event.Cause.TheVariants.{Hex}
-use Rattle.schedule_model.specs.Cutting.{Fields}
-use Rattle.schedule_model.specs.Reading.{client_at, fault, field}
+use Rattle.schedule_model.specs.Reading.{fault}
+use Rattle.schedule_text.specs.Read.{client_from}
 
 -- of another size
-pub no_client_size : (fields : Fields) (k : ℕ) → length (field fields k) ≢ 32 → client_at fields k ≡ fault Hex k
-no_client_size fields k other = go (decode_of (field fields k)) refl
+pub no_client_size : (text : List ℕ) (k : ℕ) → length text ≢ 32 → client_from text k ≡ fault Hex k
+no_client_size text k other = go (decode_of text) refl
   where
-    go : (r : Result (List ℕ) FromHexError) → decode_of (field fields k) ≡ r → client_at fields k ≡ fault Hex k
+    go : (r : Result (List ℕ) FromHexError) → decode_of text ≡ r → client_from text k ≡ fault Hex k
     go (Err x) is = rw is refl
     go (Ok bytes) is = elim (eqb_tells (length bytes) 16) [
       | inl y ↦
-          let (even, digits, twice, byte) = decode_of-ok (field fields k) bytes is in
+          let (even, digits, twice, byte) = decode_of-ok text bytes is in
           absurd (other (omega (arith, twice, y.1)))
       | inr n ↦ rw (is, n.0) refl
     ]
 
 -- with a byte that is no digit
-pub no_client_digits : (fields : Fields) (k : ℕ) → length (field fields k) ≡ 32 → IsErr (decode_pairs 0 (field fields k)) → client_at fields k ≡ fault Hex k
-no_client_digits fields k size bad = go (decode_pairs 0 (field fields k)) refl bad
+pub no_client_digits : (text : List ℕ) (k : ℕ) → length text ≡ 32 → IsErr (decode_pairs 0 text) → client_from text k ≡ fault Hex k
+no_client_digits text k size bad = go (decode_pairs 0 text) refl bad
   where
-    go : (r : Result (List ℕ) FromHexError) → decode_pairs 0 (field fields k) ≡ r → IsErr r → client_at fields k ≡ fault Hex k
-    go (Err x) is bad = rw (decode_of-even (field fields k) (omega (arith, size)), is) refl
+    go : (r : Result (List ℕ) FromHexError) → decode_pairs 0 text ≡ r → IsErr r → client_from text k ≡ fault Hex k
+    go (Err x) is bad = rw (decode_of-even text (omega (arith, size)), is) refl
     go (Ok bytes) is bad = cc bad
 
-pub a_client : (fields : Fields) (k : ℕ) (bytes : List ℕ) → length (field fields k) ≡ 32 → decode_pairs 0 (field fields k) ≡ Ok bytes → client_at fields k ≡ Ok (record { 0 = bytes })
-a_client fields k bytes size some =
-    let is : decode_of (field fields k) ≡ Ok bytes = decode_of-even (field fields k) (omega (arith, size)) ∙ some in
-    let (even, digits, twice, byte) = decode_of-ok (field fields k) bytes is in
+pub a_client : (text : List ℕ) (k : ℕ) (bytes : List ℕ) → length text ≡ 32 → decode_pairs 0 text ≡ Ok bytes → client_from text k ≡ Ok (record { 0 = bytes })
+a_client text k bytes size some =
+    let is : decode_of text ≡ Ok bytes = decode_of-even text (omega (arith, size)) ∙ some in
+    let (even, digits, twice, byte) = decode_of-ok text bytes is in
     elim (eqb_tells (length bytes) 16) [
       | inl y ↦ rw (is, y.0) refl
       | inr n ↦ absurd (n.1 (omega (arith, twice, size)))

@@ -1,15 +1,6 @@
 -- Digits, and the value that they go on to from another.
-use Rattle.std.proofs.Common.{arith, refl, ◌≡◌, ◌+◌, ◌-◌, ◌*◌, ◌<◌, ◌≤◌, ℕ, List, [], ◌∷◌, length, drop, get_or, drop-cons, add-one, fold, Bool}
-use Rattle.std.specs.Char.{is_ascii_digit}
-use Rattle.std.specs.List.{list_all}
-use Rattle.std.proofs.lemmas.Bool.{ne_eqb}
-use Rattle.schedule_model.specs.Reading.{is_number}
-
--- a text of at least two bytes
-pub of_two : (text : List ℕ) (all : Bool) → 2 ≤ length text → (get_or text 0 0 ≡ 48 → ⊥) → all ≡ list_all is_ascii_digit text → all ≡ is_number text
-of_two [] all n ne is = absurd (omega arith)
-of_two (d ∷ []) all n ne is = absurd (omega arith)
-of_two (d ∷ e ∷ ds) all n ne is = rw (ne_eqb d 48 ne) is
+use Rattle.std.proofs.Common.{arith, refl, ◌≡◌, ◌+◌, ◌-◌, ◌*◌, ◌^◌, ◌<◌, ◌≤◌, ℕ, List, [], ◌∷◌, length, drop, get_or, drop-cons, add-one, fold}
+use Rattle.std.proofs.Math.Nat.{pow-le-pow_right}
 
 -- the value of digits after those that gave `value`
 abbrev pub value_from : ℕ → List ℕ → ℕ
@@ -24,3 +15,10 @@ least value (d ∷ ds) = let more = least (10 * value + (d - 48)) ds in omega ar
 pub next : (value : ℕ) (digits : List ℕ) (i : ℕ) → i < length digits
     → value_from value (drop i digits) ≡ value_from (10 * value + (get_or digits i 0 - 48)) (drop (i + 1) digits)
 next value digits i lt = rw (add-one, drop-cons digits i 0) refl
+
+-- the value of few digits has room for one more
+pub room : (value i : ℕ) → value < 10 ^ i → i < 19 → 10 * value + 9 < 2 ^ 64
+room value i small few =
+    let ten : 0 < 10 = omega arith in
+    let most : 10 ^ i ≤ 10 ^ 18 = pow-le-pow_right ten {i = i} {j = 18} (omega arith) in
+    omega (arith, small, most)

@@ -1,3 +1,4 @@
 pub mod Decoded
 pub mod Joined
 pub mod Read
+pub mod Values

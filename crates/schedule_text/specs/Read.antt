@@ -1,6 +1,9 @@
 -- What is read of a record.
-use Rattle.std.specs.Prelude.{◌≡◌, ⊤, Result, Ok, Err}
-use Rattle.schedule_model.specs.Reading.{RecordFault}
+use Rattle.std.specs.Prelude.{ℕ, ◌≡◌, ◌==◌, if◌then◌else◌, ⊤, List, length, Result, Ok, Err}
+use Rattle.hex.specs.Hex.{decode_of}
+use Rattle.schedule_model.specs.Reading.{RecordFault, bytes_or_fault, fault, ◌>>=◌}
+use Rattle.svr_base.specs.declared.event.Cause.TheVariants.{Hex}
+use Rattle.svr_base.specs.declared.ids.ClientId.{ClientId}
 use Rattle.schedule_text.specs.declared.fault.Unread.{Unread}
 use Rattle.schedule_text.specs.declared.fault.Unread.TheVariants as unread
 
@@ -9,3 +12,11 @@ abbrev pub Reads : {T : Type 0} → Result T Unread → Result T RecordFault →
 Reads (Ok value) said = said ≡ Ok value
 Reads (Err unread.Memory) said = ⊤
 Reads (Err (unread.Fault fault)) said = said ≡ Err fault
+
+-- a text at field k as a client
+abbrev pub client_from : List ℕ → ℕ → Result ClientId RecordFault
+client_from text k = do
+  bytes ← do
+    bytes ← bytes_or_fault k (decode_of text)
+    if length bytes == 16 then Ok bytes else fault Hex k
+  Ok (record { 0 = bytes })

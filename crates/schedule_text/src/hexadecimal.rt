@@ -1,38 +1,33 @@
 //! Bytes as hexadecimal, read and written where they are to stay.
-ghost use Rattle.std.specs.Prelude.{◌≡◌, ◌++◌, ◌*◌, IfOk, OnOk, length};
+ghost use Rattle.std.specs.Prelude.{◌≡◌, ◌<◌, ◌≤◌, ◌++◌, ◌+◌, ◌*◌, ◌&&◌, true, false, IsErr, IfOk, OnOk, length};
 ghost use Rattle.hex.specs.Hex.{decode_of, decode_pairs};
 ghost use Rattle.schedule_model.specs.Lines as spec;
-ghost use Rattle.schedule_text.specs.Decoded.{Decodes, digit_or_16};
+ghost use Rattle.schedule_text.specs.Decoded.{AreRead, Decodes, IsKept};
+ghost use Rattle.schedule_text.specs.Values.{all_small};
 
+use crate::digit::{NO_DIGIT, are_digits, digit_value, digit_values, digits, joined, larger};
 use std::alloc::AllocError;
+use std::simd::prelude::*;
 
-/// What a byte reads as that is no digit: more than the value of any.
-const NO_DIGIT: u8 = 16;
+/// How many bytes are read or written at once.
+const BLOCK: usize = 8;
 
-/// The digits by their values.
-const DIGITS: &[u8; 16] = b"0123456789abcdef";
-
-/// The value of a digit, in either case. Each test is one comparison, which a vector of digits can be put to.
-fn digit_value(byte: u8) -> u8
-    ensures { result ≡ digit_or_16 byte }
+/// Reads the block of `out` that begins at `at`, and gives the values of its digits.
+#[inline(always)]
+fn decode_block(text: &[u8], out: &mut [u8], at: usize) -> u8x16
+    requires room { at + BLOCK ≤ length out.old }
+    requires size { length text.now ≡ 2 * length out.old }
+    ensures read { all_small result ≡ true → AreRead text.now out.new at (at + BLOCK) }
+    ensures kept { IsKept out.old out.new at }
+    ensures broken { all_small result ≡ false → IsErr (decode_pairs 0 text.now) }
 {
-    let numeral = byte.wrapping_sub(b'0');
-    let small = byte.wrapping_sub(b'a');
-    let capital = byte.wrapping_sub(b'A');
-    if numeral < 10 {
-        numeral
-    } else if small < 6 {
-        small + 10
-    } else if capital < 6 {
-        capital + 10
-    } else {
-        NO_DIGIT
-    }
+    let values = digit_values(u8x16::from_slice(&text[2 * at..]));
+    out[at..at + BLOCK].copy_from_slice(&joined(values).to_array());
+    values
 }
 
-/// Reads two digits into each byte of `out`, and answers whether the text has nothing but digits. It does not
-/// stop at a byte that is none, so that many digits are read at once.
-pub fn decode_into(text: &[u8], out: &mut [u8]) -> bool
+/// What `decode_into` does, digit by digit, for a text that is shorter than a block.
+fn decode_each(text: &[u8], out: &mut [u8]) -> bool
     requires { length text.now ≡ 2 * length out.old }
     ensures { Decodes result out.new (decode_pairs 0 text.now) }
 {
@@ -47,6 +42,26 @@ pub fn decode_into(text: &[u8], out: &mut [u8]) -> bool
     whole
 }
 
+/// Reads two digits into each byte of `out`, and answers whether the text has nothing but digits. It does not
+/// stop at a byte that is none, so that many digits are read at once.
+pub fn decode_into(text: &[u8], out: &mut [u8]) -> bool
+    requires { length text.now ≡ 2 * length out.old }
+    ensures { Decodes result out.new (decode_pairs 0 text.now) }
+{
+    if out.len() < BLOCK {
+        return decode_each(text, out);
+    }
+    let last = out.len() - BLOCK;
+    let mut largest = u8x16::splat(0);
+    let mut at = 0;
+    while at < last {
+        largest = larger(largest, decode_block(text, out, at));
+        at += BLOCK;
+    }
+    // The last block may begin in the one before.
+    are_digits(larger(largest, decode_block(text, out, last)))
+}
+
 /// Reads the bytes of hexadecimal, in either case, into a vector that is used again, and answers whether the
 /// text is hexadecimal.
 pub fn decode(text: &[u8], bytes: &mut Vec<u8>) -> Result<bool, AllocError>
@@ -59,14 +74,25 @@ pub fn decode(text: &[u8], bytes: &mut Vec<u8>) -> Result<bool, AllocError>
     Ok(decode_into(text, bytes.as_mut_slice()))
 }
 
+/// What `push_digits` does, for fewer bytes than a block has. Zeros fill it up, and their digits are left out.
+fn push_short(line: &mut Vec<u8>, bytes: &[u8]) -> Result<(), AllocError>
+    requires { length bytes.now < BLOCK }
+    ensures { OnOk result (line.new.items ≡ line.old.items ++ spec.hex bytes.now) }
+{
+    let mut block = [0; BLOCK];
+    block[..bytes.len()].copy_from_slice(bytes);
+    let written = digits(u8x8::from_array(block));
+    line.extend_from_slice(&written.as_array()[..2 * bytes.len()])
+}
+
 /// Appends bytes as lower-case hexadecimal.
 pub fn push_digits(line: &mut Vec<u8>, bytes: &[u8]) -> Result<(), AllocError>
     ensures { OnOk result (line.new.items ≡ line.old.items ++ spec.hex bytes.now) }
 {
-    for byte in bytes {
-        let high = DIGITS[usize::from(*byte / 16)];
-        let low = DIGITS[usize::from(*byte % 16)];
-        line.extend_from_slice(&[high, low])?;
+    let (blocks, rest) = bytes.as_chunks::<BLOCK>();
+    line.reserve(2 * bytes.len())?;
+    for block in blocks {
+        line.extend_from_slice(digits(u8x8::from_array(*block)).as_array())?;
     }
-    Ok(())
+    push_short(line, rest)
 }

@@ -1,5 +1,4 @@
 pub mod Digits
-pub mod Shapes
 pub mod Playing
 pub mod Runs
 pub mod Parses

@@ -5,7 +5,6 @@ ghost use Rattle.svr2_run.specs.Openings.{nothing_from, unstopped_from};
 
 use crate::form::read_event;
 use crate::state::OneVoter;
-use csv::ByteRecord;
 use record_stream::{Player, Stop, Unwritten};
 use schedule_text::Stopped;
 use svr_base::Sink;
@@ -17,8 +16,8 @@ impl Player for OneVoter {
 
     ghost count = { λ p. p.events };
 
-    fn play<K: Sink>(&mut self, row: &ByteRecord, sink: &mut K) -> Result<(), Stop<Stopped>> {
-        let Ok(event) = read_event(self.alloc, row, self.voter, self.path.as_slice()) else {
+    fn play<K: Sink>(&mut self, fields: &[&[u8]], sink: &mut K) -> Result<(), Stop<Stopped>> {
+        let Ok(event) = read_event(self.alloc, fields, self.voter, self.path.as_slice()) else {
             return Err(Stop::Memory);
         };
         let Some(event) = event else {

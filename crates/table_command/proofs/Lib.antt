@@ -1,3 +1,4 @@
+pub mod Asked
 pub mod Playing
 pub mod SameRecords
 pub mod Faulty

@@ -1,8 +1,8 @@
 //! The player of a table's records.
 ghost use Rattle.std.specs.Prelude.{◌≡◌, ◌≤◌, ◌<◌, ◌+◌, ◌++◌, ◌^◌, IfOk, OnOk};
-ghost use Rattle.csv.specs.Records.{fields_of};
 ghost use Rattle.svr_base.specs.Causes.{HasCauseAt};
 ghost use Rattle.record_stream.specs.Course.{Writes};
+ghost use Rattle.record_stream.specs.Lines.{record_of};
 ghost use Rattle.record_table.specs.declared.store.TheConstants.{MOST_ROWS};
 ghost use Rattle.record_table.specs.Table.{empty_table};
 ghost use Rattle.schedule_model.specs.Lines.{line_text, stopped_at_limit, stopped_at_record, Events};
@@ -15,7 +15,6 @@ ghost use Rattle.table_command.specs.Openings.{nothing_from, unstopped_from};
 use crate::line::push_fault;
 use crate::record::{TableRecord, read_record};
 use client_msgs::read_request;
-use csv::ByteRecord;
 use record_stream::{Player, Stop, Unwritten};
 use record_table::Table;
 use schedule_text::{
@@ -85,12 +84,12 @@ impl TablePlayer {
     }
 
     /// What a record asks. Its bytes stand where those of the record before it stood.
-    fn read(&mut self, row: &ByteRecord) -> Result<TableRecord, Unread>
-        ensures reads { Reads result (table_record (fields_of row.now)) }
+    fn read(&mut self, fields: &[&[u8]]) -> Result<TableRecord, Unread>
+        ensures reads { Reads result (table_record (record_of fields.now)) }
         ensures same { self.new ≡ self.old }
     {
         let request = replace(&mut self.request, Vec::new(self.alloc));
-        read_record(request, row)
+        read_record(request, fields)
     }
 
     /// Applies a request, and gives its line.
@@ -170,8 +169,8 @@ impl Player for TablePlayer {
 
     ghost count = { λ p. p.records };
 
-    fn play<K: Sink>(&mut self, row: &ByteRecord, sink: &mut K) -> Result<(), Stop<Stopped>> {
-        let ask = match self.read(row) {
+    fn play<K: Sink>(&mut self, fields: &[&[u8]], sink: &mut K) -> Result<(), Stop<Stopped>> {
+        let ask = match self.read(fields) {
             Ok(ask) => ask,
             Err(Unread::Memory) => return Err(Stop::Memory),
             Err(Unread::Fault(fault)) => {

@@ -1,10 +1,9 @@
 //! What a record asks of the table.
-ghost use Rattle.csv.specs.Records.{fields_of};
+ghost use Rattle.record_stream.specs.Lines.{record_of};
 ghost use Rattle.schedule_text.specs.Read.{Reads};
 ghost use Rattle.trace_model.specs.TableText.{table_record};
 
-use csv::ByteRecord;
-use schedule_text::{RecordFault, Unread, client_at, hex_at, number_at};
+use schedule_text::{RecordFault, Unread, client_of, hex_of, number_of};
 use std::marker::Model;
 use svr_base::{Bytes, Cause, ClientId};
 
@@ -26,15 +25,15 @@ impl Model for TableRecord {
 
 /// What a record asks: it has three fields, a client, a number and the hexadecimal of a request's bytes. The bytes
 /// stand in `request`, whose room is used again.
-pub fn read_record(request: Vec<u8>, row: &ByteRecord) -> Result<TableRecord, Unread>
-    ensures { Reads result (table_record (fields_of row.now)) }
+pub fn read_record(request: Vec<u8>, fields: &[&[u8]]) -> Result<TableRecord, Unread>
+    ensures { Reads result (table_record (record_of fields.now)) }
 {
-    if row.len() != 3 {
+    let [client, number, hex] = fields else {
         return Err(Unread::Fault(RecordFault::new(Cause::Fields, 0)));
-    }
-    let client = client_at(row, 1)?;
-    let number = number_at(row, 2, 0, u64::MAX)?;
-    let request = hex_at(request, row, 3)?;
+    };
+    let client = client_of(client, 1)?;
+    let number = number_of(number, 2, 0, u64::MAX)?;
+    let request = hex_of(request, hex, 3)?;
     Ok(TableRecord {
         client,
         number,

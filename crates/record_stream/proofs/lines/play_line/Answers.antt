@@ -1,5 +1,7 @@
 use Rattle.record_stream.proofs.PlainLines.{plain_line}
 use Rattle.record_stream.proofs.lines.play_line.Goals as goal
 
-pub returns-in-Some-clause-plays : goal.returns-in-Some-clause-plays
-returns-in-Some-clause-plays g c = rw (plain_line c.args.line.now c.in-Some.body.now c.in-Some.ensures) c.play_plain.ensures.plays
+pub returns-in-Ok-Open-clause-plays : goal.returns-in-Ok-Open-clause-plays
+returns-in-Ok-Open-clause-plays g c =
+    let cuts = rw (c.in-Ok-Open.field-0-is, c.new.ensures.piece, c.new.ensures.from) at c.in-Ok-Open.ensures.cuts in
+    rw (plain_line c.args.line.now c.body_of-body.result.now cuts.0 c.body_of-body.ensures) c.play_cut.ensures.plays

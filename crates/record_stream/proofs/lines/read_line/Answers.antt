@@ -28,8 +28,8 @@ loop-row-init g c =
       later = omega arith;
     })
 
-pub play-requires : goal.play-requires
-play-requires g c =
+pub play_row-requires : goal.play_row-requires
+play_row-requires g c =
     let inv = c.loop-row.invariant in
     let (left, rows, source, reached, count, written, goes, taken) = inv.so_far in
     let s = rw (c.in-Some.is, c.in-Ok.is) at ((c.next.ensures.steps inv.turns inv.trim).0 inv.ready) in
@@ -37,19 +37,19 @@ play-requires g c =
     let few = length-rows c.args.line.now _ m.0 (rows ++ (fields_of c.in-Ok.row ∷ [])) m.2 in
     omega (arith, count, few, length-append rows (fields_of c.in-Ok.row ∷ []), c.requires)
 
-pub returns-in_err-play : goal.returns-in_err-play
-returns-in_err-play g c =
+pub returns-in_err-play_row : goal.returns-in_err-play_row
+returns-in_err-play_row g c =
     let p = err_from_is_err_and c.from_residual.result c.from_residual.ensures.1 in
     let inv = c.loop-row.invariant in
     let (left, rows, source, reached, count, written, goes, taken) = inv.so_far in
     let s = rw (c.in-Some.is, c.in-Ok.is) at ((c.next.ensures.steps inv.turns inv.trim).0 inv.ready) in
     let m = rows-more (λ (s : Bor (List ℕ)). Some s.now) c.loop-row.row-iterator.rdr c.next.new.self.rdr (fields_of c.in-Ok.row) default_config st.StartRecord (strip_bom c.args.line.now) left rows inv.config source reached s.0 in
     let (rest, front) = records-front c.args.line.now _ m.0 (rows ++ (fields_of c.in-Ok.row ∷ [])) m.2 in
-    let all = plays_then _ _ _ rows (fields_of c.in-Ok.row ∷ []) written _ _ _ _ goes taken c.play.ensures.plays in
+    let all = plays_then _ _ _ rows (fields_of c.in-Ok.row ∷ []) written _ _ _ _ goes taken c.play_row.ensures.plays in
     record {
-      plays = rw front (stops_in _ _ _ (rows ++ (fields_of c.in-Ok.row ∷ [])) rest _ _ _ _ _ c.in_err-play.was (p.1 ∙ ap Err p.2) all);
+      plays = rw front (stops_in _ _ _ (rows ++ (fields_of c.in-Ok.row ∷ [])) rest _ _ _ _ _ c.in_err-play_row.was (p.1 ∙ ap Err p.2) all);
       counted = rw p.1 tt;
-      cause = cause_passed _ _ _ _ _ _ _ inv.later c.in_err-play.was (p.1 ∙ ap Err p.2) c.play.ensures.cause;
+      cause = cause_passed _ _ _ _ _ _ _ inv.later c.in_err-play_row.was (p.1 ∙ ap Err p.2) c.play_row.ensures.cause;
     }
 
 pub loop-row-preserved : goal.loop-row-preserved
@@ -58,7 +58,7 @@ loop-row-preserved g c =
     let (left, rows, source, reached, count, written, goes, taken) = inv.so_far in
     let s = rw (c.in-Some.is, c.in-Ok.is) at ((c.next.ensures.steps inv.turns inv.trim).0 inv.ready) in
     let m = rows-more (λ (s : Bor (List ℕ)). Some s.now) c.loop-row.row-iterator.rdr c.next.new.self.rdr (fields_of c.in-Ok.row) default_config st.StartRecord (strip_bom c.args.line.now) left rows inv.config source reached s.0 in
-    let (more, goes_more, taken_more) = c.in_ok-play.ensures.plays in
+    let (more, goes_more, taken_more) = c.in_ok-play_row.ensures.plays in
     record {
       trim = s.0.3 ∙ inv.trim;
       ready = inl s.1;
@@ -69,12 +69,12 @@ loop-row-preserved g c =
         rows ++ (fields_of c.in-Ok.row ∷ []),
         m.1,
         m.2,
-        omega (arith, count, c.in_ok-play.ensures.counted, length-append rows (fields_of c.in-Ok.row ∷ [])),
+        omega (arith, count, c.in_ok-play_row.ensures.counted, length-append rows (fields_of c.in-Ok.row ∷ [])),
         written ++ more,
         goes_then _ _ _ rows (fields_of c.in-Ok.row ∷ []) written more goes goes_more,
         Appends-trans _ _ _ written more taken taken_more,
       );
-      later = omega (arith, inv.later, c.play.ensures.cause.later);
+      later = omega (arith, inv.later, c.play_row.ensures.cause.later);
     }
 
 pub returns-in_default : goal.returns-in_default

@@ -1,7 +1,7 @@
 use Rattle.std.proofs.Common.{arith, rules, refl, sym, ap, ◌∙◌, ◌≡◌, Ok, Err, true, false}
 use Rattle.std.specs.Prelude.{nat_le}
 use Rattle.std.proofs.lemmas.Result.{err_from_is_err_and}
-use Rattle.csv.specs.Records.{fields_of}
+use Rattle.record_stream.specs.Lines.{record_of}
 use Rattle.record_stream.proofs.Courses.{unwritten_plays}
 use Rattle.trace_model.specs.Limits.{max_events}
 use Rattle.trace_model.specs.TableText.{table_record}
@@ -12,7 +12,7 @@ use Rattle.table_command.proofs.player.TablePlayerPlayer.play.Goals as goal
 pub returns-in_err-stop_at_record-in-Err-Fault-clause-plays : goal.returns-in_err-stop_at_record-in-Err-Fault-clause-plays
 returns-in_err-stop_at_record-in-Err-Fault-clause-plays g c =
     let s = c.read.new.self in
-    let fields = fields_of c.args.row.now in
+    let fields = record_of c.args.fields.now in
     let p = err_from_is_err_and c.from_residual.result c.from_residual.ensures.1 in
     let bad : table_record fields ≡ Err c.in-Err-Fault.fault = search rules in
     rw (← c.read.ensures.same) (unwritten_plays _ _ _ _ _ _ c.in_err-stop_at_record-in-Err-Fault.field-0.0 c.stop_at_record.result _ (stops_text s fields _ _ (stops_record s fields c.in-Err-Fault.fault bad))
@@ -21,14 +21,14 @@ returns-in_err-stop_at_record-in-Err-Fault-clause-plays g c =
 pub returns-in-Err-Fault-clause-plays : goal.returns-in-Err-Fault-clause-plays
 returns-in-Err-Fault-clause-plays g c =
     let s = c.read.new.self in
-    let fields = fields_of c.args.row.now in
+    let fields = record_of c.args.fields.now in
     let bad : table_record fields ≡ Err c.in-Err-Fault.fault = search rules in
     rw (← c.read.ensures.same) ((_, stops_record s fields c.in-Err-Fault.fault bad, c.in_ok-stop_at_record-in-Err-Fault.ensures.writes))
 
 pub returns-in_err-stop_at_limit-clause-plays : goal.returns-in_err-stop_at_limit-clause-plays
 returns-in_err-stop_at_limit-clause-plays g c =
     let s = c.read.new.self in
-    let fields = fields_of c.args.row.now in
+    let fields = record_of c.args.fields.now in
     let p = err_from_is_err_and c.from_residual-in_err-stop_at_limit.result c.from_residual-in_err-stop_at_limit.ensures.1 in
     let read : table_record fields ≡ Ok c.in-Ok.ask = search rules in
     let full : nat_le max_events s.records ≡ true = grind arith in
@@ -38,7 +38,7 @@ returns-in_err-stop_at_limit-clause-plays g c =
 pub returns-then-self-ge-MOST_RECORDS-clause-plays : goal.returns-then-self-ge-MOST_RECORDS-clause-plays
 returns-then-self-ge-MOST_RECORDS-clause-plays g c =
     let s = c.read.new.self in
-    let fields = fields_of c.args.row.now in
+    let fields = record_of c.args.fields.now in
     let read : table_record fields ≡ Ok c.in-Ok.ask = search rules in
     let full : nat_le max_events s.records ≡ true = grind arith in
     rw (← c.read.ensures.same) ((_, stops_limit s fields c.in-Ok.ask read full, c.in_ok-stop_at_limit.ensures.writes))
@@ -46,7 +46,7 @@ returns-then-self-ge-MOST_RECORDS-clause-plays g c =
 pub returns-in_err-ask-clause-plays : goal.returns-in_err-ask-clause-plays
 returns-in_err-ask-clause-plays g c =
     let s = c.read.new.self in
-    let fields = fields_of c.args.row.now in
+    let fields = record_of c.args.fields.now in
     let p = err_from_is_err_and c.from_residual-in_err-ask.result c.from_residual-in_err-ask.ensures.1 in
     let read : table_record fields ≡ Ok c.in-Ok.ask = search rules in
     let room : nat_le max_events s.records ≡ false = grind arith in
@@ -57,7 +57,7 @@ returns-in_err-ask-clause-plays g c =
 pub returns-clause-plays : goal.returns-clause-plays
 returns-clause-plays g c =
     let s = c.read.new.self in
-    let fields = fields_of c.args.row.now in
+    let fields = record_of c.args.fields.now in
     let read : table_record fields ≡ Ok c.in-Ok.ask = search rules in
     let room : nat_le max_events s.records ≡ false = grind arith in
     rw (← c.read.ensures.same) ((_, goes_ask s _ fields c.in-Ok.ask read room c.in_ok-ask.ensures.after, c.in_ok-ask.ensures.writes))

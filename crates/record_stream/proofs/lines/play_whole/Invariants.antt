@@ -1,0 +1,15 @@
+use Rattle.std.proofs.Common.{◌≡◌, ◌+◌, ◌-◌, ◌*◌, ◌≤◌, length}
+use Rattle.record_stream.proofs.Wholes.{PlayedTo}
+use Rattle.record_stream.proofs.lines.play_whole.Given as goal
+
+-- the lines before the place that the walk has come to were played
+abbrev pub invariant-loop-cut : goal.invariant-loop-cut
+invariant-loop-cut g l = record {
+  piece : l.cutter.piece.now ≡ l.piece;
+  played : PlayedTo (g.P.Player.course l.initial.player) (g.P.Player.course l.player) (g.K.Sink.taken l.initial.sink) (g.K.Sink.taken l.sink) l.piece l.cutter.from;
+  counted : g.P.Player.count l.player ≤ g.P.Player.count l.initial.player + 2 * l.cutter.from;
+  later : g.K.Sink.faults l.initial.sink ≤ g.K.Sink.faults l.sink;
+}
+
+abbrev pub decreases-loop-cut : goal.decreases-loop-cut
+decreases-loop-cut g l = length l.piece - l.cutter.from
