@@ -4,3 +4,4 @@ pub mod MemberLemmas
 pub mod ReadOn
 pub mod RoundTrip
 pub mod SizesLemmas
+pub mod StrictLemmas

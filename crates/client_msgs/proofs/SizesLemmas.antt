@@ -1,4 +1,4 @@
--- A valid request has no fault of its sizes.
+-- What has no fault of its sizes.
 use Rattle.std.proofs.Common.{◌≡◌, ℕ, ◌≤◌, length, Option, None, Some, refl, ap, ◌∙◌, arith}
 use Rattle.std.specs.Prelude.{nat_le, ◌&&◌}
 use Rattle.std.specs.Option.{option_or}
@@ -9,6 +9,10 @@ use Rattle.svr_base.specs.declared.message.Request.{Request}
 use Rattle.svr_base.specs.declared.message.Request.TheVariants.{Backup, Restore, Delete, Expose}
 use Rattle.svr_base.specs.Sizes.{IsValid}
 use Rattle.client_msgs.specs.Sizes.{outside, pin_fault, tries_fault, size_fault, FitsRequest}
+
+pub or-none : {X : Type 0} (a b : Option X) → option_or a b ≡ None → (a ≡ None) × (b ≡ None)
+or-none None b is = (refl, is)
+or-none (Some x) b is = absurd cc
 
 outside-none : (part : Part) (least most n : ℕ) → least ≤ n → n ≤ most → outside part least most n ≡ None
 outside-none part least most n low high = cond-true (nat_le least n && nat_le n most) None (Some (part, n)) (and_from _ _ (le-leb least n low) (le-leb n most high))

@@ -18,12 +18,14 @@ mod fault;
 mod laws;
 mod oneof;
 mod read;
+mod strict;
 mod write;
 
 pub use check::check_request;
 pub use fault::{RequestFault, ResponseFault};
 pub use laws::{requests_are_read_again, responses_are_read_again};
 pub use read::{read_request, read_response};
+pub use strict::is_canonical_request;
 pub use write::{write_request, write_response};
 
 #[cfg(test)]

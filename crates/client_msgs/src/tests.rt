@@ -177,3 +177,20 @@ fn a_response_is_written_and_read_again(rt: HostRuntime) -> Result<(), Fail> {
     assert_eq!(rt; wide, Response::Backup { status: 1 });
     Ok(())
 }
+
+#[test]
+fn one_spelling_of_a_request(rt: HostRuntime) -> Result<(), Fail> {
+    let alloc = rt.alloc();
+    for tries in [1, 127, 128, 255] {
+        let request = Request::Backup {
+            secret: Bytes::from_slice(alloc, &LONG[..48])?,
+            pin: Hash(PIN),
+            tries,
+        };
+        let bytes = write_request(alloc, &request)?;
+        assert!(rt; is_canonical_request(bytes.as_slice()));
+        assert!(rt; !is_canonical_request(&bytes.as_slice()[1..]));
+    }
+    assert!(rt; !is_canonical_request(b"\x22\x02\x08\x01"));
+    Ok(())
+}

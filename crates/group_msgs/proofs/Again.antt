@@ -26,8 +26,8 @@ use Rattle.svr_base.specs.declared.peer.TablePart.{TablePart}
 use Rattle.svr_base.specs.declared.peer.PeerMsg.{PeerMsg}
 use Rattle.svr_base.specs.declared.peer.PeerMsg.TheVariants.{AskVote, Vote, Append, Accepted, Rejected, Part, PartTaken}
 use Rattle.group_quorum.specs.Voters.{IsSound}
-use Rattle.svr_base.specs.declared.limits.TheConstants.{TOP}
-use Rattle.group_msgs.specs.declared.TheConstants.{MAX_ENTRIES, MAX_ROWS, MAX_PARTS, MAX_LIMIT, MAX_MARGIN}
+use Rattle.svr_base.specs.declared.limits.TheConstants.{MAX_ENTRIES, ROWS_PER_PART, TOP}
+use Rattle.group_msgs.specs.declared.TheConstants.{MAX_PARTS, MAX_LIMIT, MAX_MARGIN}
 use Rattle.group_msgs.specs.declared.fault.PeerFault.{PeerFault}
 use Rattle.group_msgs.specs.Known.{Known, known_of, u64_at, u32_at, bytes_at}
 use Rattle.group_msgs.specs.Reading.{is_listed, listed_in, listed_fault, member_fault, wire_fault, member_of}
@@ -38,7 +38,7 @@ use Rattle.group_msgs.specs.Peer.{unless_broken, checked, peer_in, peer_of}
 use Rattle.group_msgs.specs.Ranges.{IsIndex, IsBodyInRange, IsEntryInRange, IsKeptInRange, IsRowInRange, IsPartInRange, IsInRange, IsHash, FitsBody, FitsKept, FitsRow, FitsPeer}
 use Rattle.group_msgs.proofs.KnownLemmas.{known-block, known-high_block, under_none}
 use Rattle.group_msgs.proofs.RuleLemmas.{none-or, none-rule}
-use Rattle.group_msgs.proofs.StrictLemmas.{canonical-few}
+use Rattle.client_msgs.proofs.StrictLemmas.{canonical-few}
 use Rattle.group_msgs.proofs.VoterLemmas.{rise-of, length-id_bytes, ids_in-id_bytes}
 use Rattle.group_msgs.proofs.Written.{with_varint, with_block, Writes, writes-nothing, writes-along, writes-varint, writes-block, writes-item}
 
@@ -423,7 +423,7 @@ part-none-again p range hash fits rows =
     (none-or (from_1_to 7 MAX_LIMIT (p.limit % 2 ^ 32)) _ (none-rule _ _ (and_from (nat_le 1 (p.limit % 2 ^ 32)) (nat_le (p.limit % 2 ^ 32) MAX_LIMIT) (le-leb 1 (p.limit % 2 ^ 32) (omega (arith, limit, range.limit_from))) (le-leb (p.limit % 2 ^ 32) MAX_LIMIT (omega (arith, limit, range.limit_to)))))
     (none-or (rule (nat_lt (p.part % 2 ^ 32) (p.parts % 2 ^ 32)) _) _ (none-rule _ _ (lt-ltb (p.part % 2 ^ 32) (p.parts % 2 ^ 32) (omega (arith, part, parts, range.part))))
     (none-or (from_1_to 9 MAX_PARTS (p.parts % 2 ^ 32)) _ (none-rule _ _ (and_from (nat_le 1 (p.parts % 2 ^ 32)) (nat_le (p.parts % 2 ^ 32) MAX_PARTS) (le-leb 1 (p.parts % 2 ^ 32) (omega (arith, parts, range.part))) (le-leb (p.parts % 2 ^ 32) MAX_PARTS (omega (arith, parts, range.parts)))))
-    (none-or (rule (nat_le (length listed) MAX_ROWS) _) _ (none-rule _ _ (le-leb (length listed) MAX_ROWS (omega (arith, count, range.few)))) (none-or (rows_fault listed) None (rows-none p.rows rows fits) refl)))))))))))
+    (none-or (rule (nat_le (length listed) ROWS_PER_PART) _) _ (none-rule _ _ (le-leb (length listed) ROWS_PER_PART (omega (arith, count, range.few)))) (none-or (rows_fault listed) None (rows-none p.rows rows fits) refl)))))))))))
 
 part-made : (p : TablePart) → IsPartInRange p → AllByRecursion IsRowInRange p.rows → part_of (part_known p) (map row_known p.rows) ≡ p
 part-made p range rows =

@@ -1,12 +1,10 @@
 mod Examples
-pub mod Again
-pub mod KnownLemmas
-pub mod ListLemmas
-pub mod MemberLemmas
-pub mod PeerLemmas
-pub mod RuleLemmas
-pub mod ShortLemmas
-pub mod StrictLemmas
-pub mod VoterLemmas
-pub mod Walk
-pub mod Written
+mod Again
+mod KnownLemmas
+mod ListLemmas
+mod MemberLemmas
+mod PeerLemmas
+mod RuleLemmas
+mod VoterLemmas
+mod Walk
+mod Written

@@ -10,8 +10,8 @@ use Rattle.proto_wire.specs.Fields.{Field}
 use Rattle.proto_wire.specs.Reading.{block_in, embedded}
 use Rattle.svr_base.specs.declared.peer.PeerMsg.{PeerMsg}
 use Rattle.group_quorum.specs.Voters.{IsSound}
-use Rattle.svr_base.specs.declared.limits.TheConstants.{TOP}
-use Rattle.group_msgs.specs.declared.TheConstants.{MAX_ENTRIES, MAX_ROWS, MAX_PARTS, MAX_LIMIT, MAX_MARGIN}
+use Rattle.svr_base.specs.declared.limits.TheConstants.{MAX_ENTRIES, ROWS_PER_PART, TOP}
+use Rattle.group_msgs.specs.declared.TheConstants.{MAX_PARTS, MAX_LIMIT, MAX_MARGIN}
 use Rattle.group_msgs.specs.declared.fault.PeerFault.{PeerFault}
 use Rattle.group_msgs.specs.declared.fault.PeerFault.TheVariants as faults
 use Rattle.group_msgs.specs.declared.gather.Member.{Member}
@@ -23,7 +23,8 @@ use Rattle.group_msgs.specs.Values.{ids_in, body_of, entry_of, kept_with, row_of
 use Rattle.group_msgs.specs.Rules.{at_most, index_rule, point_fault, kind_fault, entry_fault, entries_fault, kept_fault, row_fault, rows_fault, append_fault, part_fault, fields_fault, range_fault, are_enough}
 use Rattle.group_msgs.specs.Peer.{unless_broken, checked, peer_in, ReadsPeer}
 use Rattle.group_msgs.specs.Ranges.{IsIndex, IsBodyInRange, IsEntryInRange, IsKeptInRange, IsRowInRange, IsMemberInRange, IsInRange}
-use Rattle.group_msgs.proofs.RuleLemmas.{or-none, rule-none, size-none, at_most-none, from_1_to-none, AreVoters, voters-none, length-ids_in, ask-canonical, members-voters, members-margin, kind-ask, kind-members}
+use Rattle.client_msgs.proofs.SizesLemmas.{or-none}
+use Rattle.group_msgs.proofs.RuleLemmas.{rule-none, size-none, at_most-none, from_1_to-none, AreVoters, voters-none, length-ids_in, ask-canonical, members-voters, members-margin, kind-ask, kind-members}
 use Rattle.group_msgs.proofs.VoterLemmas.{increasing-from, ids-from}
 
 -- ---- what each member's rules say
@@ -71,7 +72,7 @@ pub record IsPart (x : Known) (rows : List Known) : Type 0 where
   pub limit : (1 ≤ u32_at 7 x) × (u32_at 7 x ≤ MAX_LIMIT)
   pub part : u32_at 8 x < u32_at 9 x
   pub parts : u32_at 9 x ≤ MAX_PARTS
-  pub few : length rows ≤ MAX_ROWS
+  pub few : length rows ≤ ROWS_PER_PART
   pub rows_none : rows_fault rows ≡ None
 
 pub part-none : (x : Known) (rows : List Known) → part_fault x rows ≡ None → IsPart x rows
@@ -97,7 +98,7 @@ part-none x rows is =
       limit = from_1_to-none 7 MAX_LIMIT (u32_at 7 x) h.0;
       part = ltb-true (u32_at 8 x) (u32_at 9 x) (rule-none _ _ i.0);
       parts = (from_1_to-none 9 MAX_PARTS (u32_at 9 x) j.0).1;
-      few = leb-true (length rows) MAX_ROWS (rule-none _ _ k.0);
+      few = leb-true (length rows) ROWS_PER_PART (rule-none _ _ k.0);
       rows_none = (or-none (rows_fault rows) _ k.1).0;
     }
 
@@ -216,7 +217,7 @@ listed_in-other number fs not_4 not_7 =
     ∙ ap (λ (b : Bool). map (λ f. (embedded f).fields) (filter (λ (f : Field). cond b (eqb f.number 10 && is_some (block_in f.content)) false) fs)) (ne_eqb number 7 not_7)
     ∙ ap (map (λ f. (embedded f).fields)) (none_pass fs)
 
-few-listed : (number : ℕ) (fs : List Field) (x : Known) → fields_fault number x (map known_of (listed_in number fs)) ≡ None → length (map known_of (listed_in number fs)) ≤ MAX_ROWS
+few-listed : (number : ℕ) (fs : List Field) (x : Known) → fields_fault number x (map known_of (listed_in number fs)) ≡ None → length (map known_of (listed_in number fs)) ≤ ROWS_PER_PART
 few-listed number fs x none =
     elim (cases_eq number 4) [
       | inl four ↦ omega (arith, (append-none x (map known_of (listed_in number fs)) (ap (λ (n : ℕ). fields_fault n x (map known_of (listed_in number fs))) (sym four) ∙ none)).few)
@@ -228,7 +229,7 @@ few-listed number fs x none =
     ]
 
 pub kept-whole : (member : Member) (fs : List Field) → IsOf member fs → fields_fault member.number (known_of fs) (map known_of (listed_in member.number fs)) ≡ None → map seen member.listed.first.items ≡ map known_of (listed_in member.number fs)
-kept-whole member fs of none = of.listed.first ∙ take_all MAX_ROWS (map known_of (listed_in member.number fs)) (few-listed member.number fs (known_of fs) none)
+kept-whole member fs of none = of.listed.first ∙ take_all ROWS_PER_PART (map known_of (listed_in member.number fs)) (few-listed member.number fs (known_of fs) none)
 
 -- ---- the member that stands last
 

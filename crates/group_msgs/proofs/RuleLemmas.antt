@@ -10,11 +10,8 @@ use Rattle.group_msgs.specs.declared.fault.PeerFault.{PeerFault}
 use Rattle.group_msgs.specs.Known.{Known, u32_at, bytes_at}
 use Rattle.group_msgs.specs.Values.{ids_in}
 use Rattle.client_msgs.specs.Strict.{is_canonical}
+use Rattle.client_msgs.proofs.SizesLemmas.{or-none}
 use Rattle.group_msgs.specs.Rules.{rule, at_most, from_1_to, size_rule, rise_above, voters_fault, are_enough, ask_fault, members_fault, kind_fault}
-
-pub or-none : {X : Type 0} (a b : Option X) → option_or a b ≡ None → (a ≡ None) × (b ≡ None)
-or-none None b is = (refl, is)
-or-none (Some x) b is = absurd cc
 
 pub rule-none : (holds : Bool) (fault : PeerFault) → rule holds fault ≡ None → holds ≡ true
 rule-none true fault is = refl

@@ -1,10 +1,13 @@
 -- What the reader gathered of a message, beside what its fields make of it.
-use Rattle.std.specs.Prelude.{◌≡◌, ℕ, ◌≤◌, List, map, length, take, Option, None, Some}
+use Rattle.std.specs.Prelude.{◌≡◌, ℕ, ◌≤◌, List, map, length, take, Option, None, Some, ⊤}
+use Rattle.proto_wire.specs.declared.field.WireFault.{WireFault}
 use Rattle.proto_wire.specs.Fields.{Field}
+use Rattle.group_msgs.specs.declared.fault.PeerFault.{PeerFault}
+use Rattle.group_msgs.specs.declared.fault.PeerFault.TheVariants.{Memory, Wire, Nothing, Range, Size, NotCanonical}
 use Rattle.group_msgs.specs.declared.scalars.Scalars.{Scalars}
 use Rattle.group_msgs.specs.declared.listed.Listed.{Listed}
 use Rattle.group_msgs.specs.declared.gather.Member.{Member}
-use Rattle.group_msgs.specs.declared.TheConstants.{MAX_ROWS}
+use Rattle.svr_base.specs.declared.limits.TheConstants.{ROWS_PER_PART}
 use Rattle.group_msgs.specs.Known.{Known, known_of}
 use Rattle.group_msgs.specs.Reading.{listed_in}
 
@@ -15,7 +18,7 @@ seen s = record { varints = s.varints; blocks = map (λ block. block.now) s.bloc
 -- all are counted, and the first of them are kept
 pub record IsList (listed : Listed) (all : List Known) : Type 0 where
   pub count : listed.count ≡ length all
-  pub first : map seen listed.first.items ≡ take MAX_ROWS all
+  pub first : map seen listed.first.items ≡ take ROWS_PER_PART all
 
 -- the member has the scalars of these fields and what they list
 pub record IsOf (member : Member) (fs : List Field) : Type 0 where
@@ -32,3 +35,12 @@ IsRun member number fs = (member.number ≡ number) × IsOf member fs
 abbrev pub IsLast : Member → Option (ℕ × List Field) → Type 0
 IsLast member None = member.number ≡ 0
 IsLast member (Some (number, fs)) = IsRun member number fs
+
+-- A fault of the wire format is the one that was found. Want of memory may come before it.
+abbrev pub Tells : PeerFault → Option WireFault → Type 0
+Tells (Wire fault) found = found ≡ Some fault
+Tells Memory found = ⊤
+Tells Nothing found = ⊥
+Tells (Range field) found = ⊥
+Tells (Size field size) found = ⊥
+Tells (NotCanonical place) found = ⊥

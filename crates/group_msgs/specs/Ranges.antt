@@ -13,8 +13,8 @@ use Rattle.svr_base.specs.declared.peer.TablePart.{TablePart}
 use Rattle.svr_base.specs.declared.peer.PeerMsg.{PeerMsg}
 use Rattle.svr_base.specs.declared.peer.PeerMsg.TheVariants.{AskVote, Vote, Append, Accepted, Rejected, Part, PartTaken}
 use Rattle.svr_base.specs.Sizes.{IsSecret, AreTries}
-use Rattle.svr_base.specs.declared.limits.TheConstants.{TOP}
-use Rattle.group_msgs.specs.declared.TheConstants.{MAX_ENTRIES, MAX_ROWS, MAX_PARTS, MAX_LIMIT}
+use Rattle.svr_base.specs.declared.limits.TheConstants.{MAX_ENTRIES, ROWS_PER_PART, TOP}
+use Rattle.group_msgs.specs.declared.TheConstants.{MAX_PARTS, MAX_LIMIT}
 use Rattle.group_msgs.specs.Canonical.{term_of}
 
 -- an index, or a term
@@ -55,7 +55,7 @@ pub record IsPartInRange (p : TablePart) : Type 0 where
   pub limit_to : p.limit ≤ MAX_LIMIT
   pub part : p.part < p.parts
   pub parts : p.parts ≤ MAX_PARTS
-  pub few : length p.rows ≤ MAX_ROWS
+  pub few : length p.rows ≤ ROWS_PER_PART
   pub rows : All IsRowInRange p.rows
 
 abbrev pub IsMemberInRange : PeerMsg → Type 0

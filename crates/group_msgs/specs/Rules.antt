@@ -3,8 +3,8 @@ use Rattle.std.specs.Prelude.{ℕ, ◌+◌, ◌*◌, ◌%◌, Bool, true, ◌&&�
 use Rattle.std.specs.Option.{option_or}
 use Rattle.group_quorum.specs.declared.TheConstants.{MAX_VOTERS, MAX_ID}
 use Rattle.client_msgs.specs.Strict.{is_canonical}
-use Rattle.svr_base.specs.declared.limits.TheConstants.{TOP}
-use Rattle.group_msgs.specs.declared.TheConstants.{MAX_ENTRIES, MAX_ROWS, MAX_PARTS, MAX_LIMIT, MAX_MARGIN}
+use Rattle.svr_base.specs.declared.limits.TheConstants.{MAX_ENTRIES, ROWS_PER_PART, TOP}
+use Rattle.group_msgs.specs.declared.TheConstants.{MAX_PARTS, MAX_LIMIT, MAX_MARGIN}
 use Rattle.group_msgs.specs.declared.fault.PeerFault.{PeerFault}
 use Rattle.group_msgs.specs.declared.fault.PeerFault.TheVariants.{Range, Size, NotCanonical}
 use Rattle.group_msgs.specs.Known.{Known, u64_at, u32_at, bytes_at}
@@ -114,7 +114,7 @@ part_fault x rows = first_of (
     ∷ from_1_to 7 MAX_LIMIT (u32_at 7 x)
     ∷ rule (nat_lt (u32_at 8 x) (u32_at 9 x)) (Range 8)
     ∷ from_1_to 9 MAX_PARTS (u32_at 9 x)
-    ∷ rule (nat_le (length rows) MAX_ROWS) (Size 10 (length rows))
+    ∷ rule (nat_le (length rows) ROWS_PER_PART) (Size 10 (length rows))
     ∷ rows_fault rows
     ∷ [])
 

@@ -10,10 +10,10 @@ ghost use Rattle.group_msgs.specs.Rules as rules;
 use crate::fault::PeerFault;
 use crate::gather::Member;
 use crate::scalars::Scalars;
-use crate::strict::is_canonical_request;
 use crate::voters::{are_rising, are_voters_long, ids_in};
-use crate::{MAX_ENTRIES, MAX_LIMIT, MAX_MARGIN, MAX_PARTS, MAX_ROWS};
-use svr_base::TOP;
+use crate::{MAX_LIMIT, MAX_MARGIN, MAX_PARTS};
+use client_msgs::is_canonical_request;
+use svr_base::{MAX_ENTRIES, ROWS_PER_PART, TOP};
 
 /// The first rule that a message breaks: of its term, and then of the member's fields in rising number.
 pub(crate) fn check_ranges(term: u64, member: &Member<'_>) -> Result<(), PeerFault>
@@ -67,7 +67,7 @@ fn check_part(part: &Member<'_>) -> Result<(), PeerFault>
     from_1_to(7, MAX_LIMIT, scalars.u32_at(7))?;
     rule(scalars.u32_at(8) < scalars.u32_at(9), PeerFault::Range(8))?;
     from_1_to(9, MAX_PARTS, scalars.u32_at(9))?;
-    let rows = part.listed.at_most(MAX_ROWS, 10)?;
+    let rows = part.listed.at_most(u64::from(ROWS_PER_PART), 10)?;
     check_rows(rows)
 }
 

@@ -24,6 +24,14 @@ pub enum PeerFault {
     NotCanonical(u64),
 }
 
+impl From<WireFault> for PeerFault {
+    ghost from_gives = { λ wire fault. fault ≡ faults.Wire wire };
+
+    fn from(fault: WireFault) -> PeerFault {
+        PeerFault::Wire(fault)
+    }
+}
+
 impl From<Memory> for PeerFault {
     ghost from_gives = { λ _ fault. fault ≡ faults.Memory };
 

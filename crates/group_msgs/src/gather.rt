@@ -10,19 +10,13 @@ ghost use Rattle.proto_wire.specs.Reading as wire;
 ghost use Rattle.group_msgs.specs.Known.{Known, known_of};
 ghost use Rattle.group_msgs.specs.Reading.{listed_fault, member_fault, wire_fault, member_of};
 ghost use Rattle.group_msgs.specs.Reading as reading;
-ghost use Rattle.std.specs.Result.{result_err};
-ghost use Rattle.group_msgs.specs.Rules.{rule};
-ghost use Rattle.group_msgs.specs.declared.fault.PeerFault.TheVariants as faults;
-ghost use Rattle.group_msgs.specs.Gathered.{seen, IsList, IsOf, IsRun, IsLast};
+ghost use Rattle.group_msgs.specs.Gathered.{IsRun, IsLast, Tells};
 
-use crate::MAX_ROWS;
 use crate::fault::PeerFault;
 use crate::listed::Listed;
 use crate::scalars::Scalars;
-use crate::short::field_from;
-use proto_wire::{Payload, WireFault, WireField, next_field};
+use proto_wire::{Payload, WireField, next_field};
 use std::alloc::Global;
-use svr_base::Memory;
 
 /// A member of the oneof; number 0 where none stands yet.
 #[derive(Drop)]
@@ -37,49 +31,6 @@ pub(crate) struct Member<'a> {
 pub(crate) struct Gathered<'a> {
     pub term: u64,
     pub member: Member<'a>,
-}
-
-impl<'a> Listed<'a> {
-    /// No message yet.
-    pub(crate) fn new(alloc: Global) -> Result<Listed<'a>, Memory>
-        ensures { IfOk result (λ listed. IsList listed [] × (listed.count ≡ 0)) }
-    {
-        Ok(Listed {
-            count: 0,
-            first: Vec::with_capacity(alloc, MAX_ROWS)?,
-        })
-    }
-
-    fn clear(&mut self)
-        ensures { IsList self.new [] }
-    {
-        self.count = 0;
-        self.first.clear();
-    }
-
-    /// All of them, if they are at most so many; else the fault of the field that lists them.
-    pub(crate) fn at_most(&self, most: usize, field: u32) -> Result<&[Scalars<'a>], PeerFault>
-        requires { most ≤ MAX_ROWS }
-        ensures fault { result_err result ≡ rule (nat_le self.now.count most) (faults.Size field self.now.count) }
-        ensures all { IfOk result (λ items. (all : List Known) → IsList self.now all → map seen items.now ≡ all) }
-    {
-        if self.count > most {
-            return Err(PeerFault::Size(field, self.count as u64));
-        }
-        Ok(self.first.as_slice())
-    }
-
-    fn push(&mut self, item: Scalars<'a>)
-        requires { self.old.count < 2 ^ 63 }
-        ensures list { (all : List Known) → IsList self.old all → IsList self.new (all ++ seen item.entry ∷ []) }
-        ensures count { self.new.count ≡ self.old.count + 1 }
-    {
-        self.count += 1;
-        if self.first.len() >= MAX_ROWS {
-            return;
-        }
-        self.first.push_reserved(item);
-    }
 }
 
 impl<'a> Member<'a> {
@@ -99,7 +50,7 @@ impl<'a> Member<'a> {
     }
 
     /// Takes one more field of the bytes in. A listed message is read where it stands.
-    fn take(&mut self, bytes: &'a [u8], field: WireField<'a>) -> Result<(), WireFault>
+    fn take(&mut self, bytes: &'a [u8], field: WireField<'a>) -> Result<(), PeerFault>
         requires count { self.old.listed.count < 2 ^ 63 }
         requires within { IsWithin field bytes.now }
         requires slice { IsSlice field.payload (slice_range bytes.now field.content_at field.next) }
@@ -107,29 +58,26 @@ impl<'a> Member<'a> {
         ensures number { self.new.number ≡ self.old.number }
         ensures count { self.new.listed.count ≤ self.old.listed.count + 1 }
         ensures whole { OnOk result (listed_fault self.old.number (field_of field.entry) ≡ None) }
-        ensures fault { IfErr result (λ e. listed_fault self.old.number (field_of field.entry) ≡ Some e) }
+        ensures fault { IfErr result (λ e. Tells e (listed_fault self.old.number (field_of field.entry))) }
     {
         self.scalars.take(field);
         if !is_listed(self.number, &field) {
             return Ok(());
         }
-        let mut item = Scalars::empty();
-        item.read(&bytes[..field.next], field.content_at)?;
-        self.listed.push(item);
-        Ok(())
+        self.listed.read(&bytes[..field.next], field.content_at)
     }
 
     /// Reads the fields from an offset to the end of the bytes on into the member.
-    fn read_on(&mut self, bytes: &'a [u8], from: usize) -> Result<(), WireFault>
+    fn read_on(&mut self, bytes: &'a [u8], from: usize) -> Result<(), PeerFault>
         requires from { from ≤ length bytes.now }
         requires count { self.old.listed.count ≤ from }
         ensures run { OnOk result ((fs : List Field) → IsRun self.old self.old.number fs → IsRun self.new self.old.number (fs ++ (sequence_at from (drop from bytes.now)).fields)) }
         ensures count { self.new.listed.count ≤ length bytes.now }
         ensures whole { OnOk result (first_fault_in (listed_fault self.old.number) (sequence_at from (drop from bytes.now)) ≡ None) }
-        ensures fault { IfErr result (λ e. first_fault_in (listed_fault self.old.number) (sequence_at from (drop from bytes.now)) ≡ Some e) }
+        ensures fault { IfErr result (λ e. Tells e (first_fault_in (listed_fault self.old.number) (sequence_at from (drop from bytes.now)))) }
     {
         let mut at = from;
-        while let Some(field) = field_from(bytes, at)? {
+        while let Some(field) = next_field(bytes, at)? {
             self.take(bytes, field)?;
             at = field.next;
         }
@@ -139,7 +87,7 @@ impl<'a> Member<'a> {
 
 impl<'a> Gathered<'a> {
     /// Takes one more field of the bytes in. A member is read where it stands.
-    fn take(&mut self, bytes: &'a [u8], field: WireField<'a>) -> Result<(), WireFault>
+    fn take(&mut self, bytes: &'a [u8], field: WireField<'a>) -> Result<(), PeerFault>
         requires count { self.old.member.listed.count ≤ field.at }
         requires within { IsWithin field bytes.now }
         requires slice { IsSlice field.payload (slice_range bytes.now field.content_at field.next) }
@@ -147,7 +95,7 @@ impl<'a> Gathered<'a> {
         ensures last { OnOk result ((fs : List Field) → IsLast self.old.member (member_of fs) → IsLast self.new.member (member_of (fs ++ field_of field.entry ∷ []))) }
         ensures count { self.new.member.listed.count ≤ field.entry.next }
         ensures whole { OnOk result (member_fault (field_of field.entry) ≡ None) }
-        ensures fault { IfErr result (λ e. member_fault (field_of field.entry) ≡ Some e) }
+        ensures fault { IfErr result (λ e. Tells e (member_fault (field_of field.entry))) }
     {
         self.term = term_behind(self.term, &field);
         if !is_member(&field) {
@@ -187,21 +135,21 @@ fn is_listed(member: u64, field: &WireField<'_>) -> bool
     field.number == list && matches!(field.payload, Payload::Block(_))
 }
 
-/// The term of a message and the member that stands last in it, or the first fault in the order of the bytes.
-pub(crate) fn gather<'a>(listed: Listed<'a>, bytes: &'a [u8]) -> Result<Gathered<'a>, WireFault>
-    requires { listed.count ≡ 0 }
+/// The term of a message and the member that stands last in it, or the first fault in the order of the bytes, which
+/// want of memory may hide.
+pub(crate) fn gather(alloc: Global, bytes: &[u8]) -> Result<Gathered<'_>, PeerFault>
     ensures count { IfOk result (λ gathered. gathered.member.listed.count < 2 ^ 63) }
     ensures term { IfOk result (λ gathered. gathered.term ≡ u64_of 1 (sequence_at 0 bytes.now).fields) }
     ensures last { IfOk result (λ gathered. IsLast gathered.member (member_of (sequence_at 0 bytes.now).fields)) }
     ensures whole { IfOk result (λ _. wire_fault (sequence_at 0 bytes.now) ≡ None) }
-    ensures fault { IfErr result (λ e. wire_fault (sequence_at 0 bytes.now) ≡ Some e) }
+    ensures fault { IfErr result (λ e. Tells e (wire_fault (sequence_at 0 bytes.now))) }
 {
     let mut gathered = Gathered {
         term: 0,
         member: Member {
             number: 0,
             scalars: Scalars::empty(),
-            listed,
+            listed: Listed::new(alloc),
         },
     };
     let mut at = 0;

@@ -24,24 +24,17 @@ mod laws;
 mod listed;
 mod read;
 mod scalars;
-mod short;
-mod strict;
 mod voters;
 mod write;
 
 pub use fault::PeerFault;
 pub use laws::messages_are_read_again;
 pub use read::read_peer;
-pub use strict::is_canonical_request;
 pub use write::write_peer;
 
 #[cfg(test)]
 mod tests;
 
-/// The greatest number of entries in one append.
-pub const MAX_ENTRIES: usize = 16;
-/// The greatest number of rows in one part of a table.
-pub const MAX_ROWS: usize = 32;
 /// The greatest number of parts of a table.
 pub const MAX_PARTS: u32 = 625;
 /// The greatest number of rows of a table.

@@ -14,7 +14,6 @@ ghost use Rattle.group_msgs.specs.Ranges.{IsInRange};
 use crate::check::check_ranges;
 use crate::fault::PeerFault;
 use crate::gather::{Member, gather};
-use crate::listed::Listed;
 use crate::scalars::Scalars;
 use crate::voters::ids_in;
 use group_quorum::MAX_VOTERS;
@@ -35,12 +34,11 @@ pub fn read_peer(alloc: Global, bytes: &[u8]) -> Result<PeerMsg, PeerFault>
     ensures exact { ReadsPeer result (peer_of bytes.now) }
     ensures in_range { IfOk result (λ msg. IsInRange msg) }
 {
-    let listed = Listed::new(alloc)?;
-    match gather(listed, bytes) {
-        Err(fault) => Err(PeerFault::Wire(fault)),
-        Ok(gathered) if gathered.member.number == 0 => Err(PeerFault::Nothing),
-        Ok(gathered) => checked(alloc, gathered.term, &gathered.member),
+    let gathered = gather(alloc, bytes)?;
+    if gathered.member.number == 0 {
+        return Err(PeerFault::Nothing);
     }
+    checked(alloc, gathered.term, &gathered.member)
 }
 
 /// The message of a term and of the member that stands last, or the first rule that is broken.

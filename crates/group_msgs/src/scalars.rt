@@ -5,8 +5,7 @@ ghost use Rattle.proto_wire.specs.Fields.{Field, field_of, sequence_at};
 ghost use Rattle.group_msgs.specs.Known.{known_of, u64_at, u32_at, bool_at, bytes_at};
 ghost use Rattle.group_msgs.specs.Gathered.{seen};
 
-use crate::short::field_from;
-use proto_wire::{Payload, WireFault, WireField};
+use proto_wire::{Payload, WireFault, WireField, next_field};
 
 /// The varints of known messages have numbers below this.
 const VARINTS: usize = 10;
@@ -49,6 +48,7 @@ impl<'a> Scalars<'a> {
     }
 
     /// Reads the fields from an offset to the end of the bytes, where none was read yet.
+    #[inline(always)]
     pub(crate) fn read(&mut self, bytes: &'a [u8], from: usize) -> Result<(), WireFault>
         requires from { from ≤ length bytes.now }
         requires none { seen self.old ≡ known_of [] }
@@ -57,7 +57,7 @@ impl<'a> Scalars<'a> {
         ensures fault { IfErr result (λ e. (sequence_at from (drop from bytes.now)).fault ≡ Some e) }
     {
         let mut at = from;
-        while let Some(field) = field_from(bytes, at)? {
+        while let Some(field) = next_field(bytes, at)? {
             self.take(field);
             at = field.next;
         }

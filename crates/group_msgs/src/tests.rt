@@ -283,20 +283,3 @@ fn faults_of_entries(rt: HostRuntime) -> Result<(), Fail> {
     }
     Ok(())
 }
-
-#[test]
-fn one_spelling_of_a_request(rt: HostRuntime) -> Result<(), Fail> {
-    let alloc = rt.alloc();
-    for tries in [1, 127, 128, 255] {
-        let request = Request::Backup {
-            secret: Bytes::from_slice(alloc, &[0xaa; 48])?,
-            pin: Hash(HASH),
-            tries,
-        };
-        let bytes = write_request(alloc, &request)?;
-        assert!(rt; is_canonical_request(bytes.as_slice()));
-        assert!(rt; !is_canonical_request(&bytes.as_slice()[1..]));
-    }
-    assert!(rt; !is_canonical_request(b"\x22\x02\x08\x01"));
-    Ok(())
-}

@@ -1,12 +1,13 @@
 -- Reading a varint group by group, from the low one on.
-use Rattle.std.proofs.Common.{◌≡◌, ℕ, suc, ◌+◌, ◌-◌, ◌*◌, ◌%◌, ◌^◌, ◌<◌, ◌≤◌, List, [], ◌∷◌, Result, Ok, Err, ltb, refl, sym, ap, subst, ◌∙◌, arith}
+use Rattle.std.proofs.Common.{◌≡◌, ℕ, suc, ◌+◌, ◌-◌, ◌*◌, ◌%◌, ◌^◌, ◌<◌, ◌≤◌, List, [], ◌∷◌, Some, Result, Ok, Err, ltb, refl, sym, ap, subst, ◌∙◌, arith}
+use Rattle.std.specs.Prelude.{slice_get}
 use Rattle.std.proofs.lemmas.Bool.{lt-ltb, le-ltb, cond-true, cond-false}
 use Rattle.std.proofs.lemmas.Nat.{pow-add, shl_whole, mul-add-lt}
 use Rattle.std.proofs.Math.Nat.{pow-le-pow_right}
 use Rattle.proto_wire.specs.declared.field.WireFault.{WireFault}
 use Rattle.proto_wire.specs.declared.field.WireFault.TheVariants.{Cut, LongVarint}
 use Rattle.proto_wire.specs.Steps.{◌>>=◌}
-use Rattle.proto_wire.specs.Varint.{number_in}
+use Rattle.proto_wire.specs.Varint.{number_in, varint_at}
 
 -- the number of which a low part and so many bytes were read before
 abbrev pub with_low : (low place before : ℕ) → Result (ℕ × ℕ) WireFault → Result (ℕ × ℕ) WireFault
@@ -25,6 +26,14 @@ regroup low place before k (Ok x) =
     let m : before + (1 + x.1) ≡ (before + 1) + x.1 = omega arith in
     ap (λ (a : ℕ). Ok (a, before + (1 + x.1))) n ∙ ap (λ (b : ℕ). Ok ((low + k * place) + place * 128 * x.0, b)) m
 regroup low place before k (Err e) = refl
+
+-- a varint of one byte
+pub one_byte : (at b : ℕ) (bytes : List ℕ) → Some b ≡ slice_get bytes 0 → b < 128 → Ok (b, 1) ≡ varint_at at bytes
+unfolding number_in
+one_byte at b [] is small = absurd cc
+one_byte at b (a ∷ bytes) is small =
+    let same : a ≡ b = cc in
+    sym (ap (λ (x : ℕ). varint_at at (x ∷ bytes)) same ∙ cond-true (ltb b 128) _ _ (lt-ltb b 128 small))
 
 -- one group on: it is not the last
 pub goes_on : (at i low b : ℕ) (rest after : List ℕ) (total : Result (ℕ × ℕ) WireFault) → i < 9 → rest ≡ b ∷ after → 128 ≤ b

@@ -1,9 +1,10 @@
 //! Reading the fields of a message, one at a time.
 
-ghost use Rattle.std.specs.Prelude.{◌≡◌, ℕ, ◌<◌, ◌≤◌, ◌↔◌, ◌+◌, ◌*◌, ◌/◌, ◌%◌, ◌^◌, length, drop, slice_range, Ok, None, IfOk, IfSome};
+ghost use Rattle.std.specs.Prelude.{◌≡◌, ◌≢◌, ℕ, ◌==◌, ◌||◌, if◌then◌else◌, Err, ◌<◌, ◌≤◌, ◌↔◌, ◌+◌, ◌*◌, ◌/◌, ◌%◌, ◌^◌, length, drop, slice_range, Ok, None, IfOk, IfSome};
 ghost use Rattle.proto_wire.specs.Varint.{varint_at};
 ghost use Rattle.proto_wire.specs.Fields.{payload_field, front, field_of};
 ghost use Rattle.proto_wire.specs.Fields as fields;
+ghost use Rattle.proto_wire.specs.declared.field.WireFault.TheVariants as faults;
 ghost use Rattle.proto_wire.specs.Walk.{Reads, ReadsField, LeadsOn, IsWithin, IsSlice};
 
 use crate::field::{Payload, WireFault, WireField};
@@ -13,6 +14,8 @@ use crate::field::{Payload, WireFault, WireField};
 /// A fault carries the offset of the tag's first byte. It is the first one that holds: of the tag's varint
 /// `Cut` or `LongVarint`, then `FieldZero`, then `GroupWire` or `BadWire`, then of the payload `Cut` or
 /// `LongVarint`. A varint may be spelled longer than needed, within ten bytes.
+// Inlined whole, so that a loop over fields needs no field in memory.
+#[inline(always)]
 pub fn next_field(bytes: &[u8], at: usize) -> Result<Option<WireField<'_>>, WireFault>
     requires { at ≤ length bytes.now }
     ensures end { (result ≡ Ok None) ↔ (at ≡ length bytes.now) }
@@ -30,6 +33,7 @@ pub fn next_field(bytes: &[u8], at: usize) -> Result<Option<WireField<'_>>, Wire
 }
 
 /// The field whose tag stands at an offset.
+#[inline(always)]
 #[tactic(auto, unfolding(crate::specs::Fields::field_at))]
 fn field_at(bytes: &[u8], at: usize) -> Result<WireField<'_>, WireFault>
     requires { at ≤ length bytes.now }
@@ -45,6 +49,7 @@ fn field_at(bytes: &[u8], at: usize) -> Result<WireField<'_>, WireFault>
 }
 
 /// The field of a tag that stands at an offset, with its payload from `start` on.
+#[inline(always)]
 #[tactic(auto, unfolding(crate::specs::Fields::payload_field))]
 fn payload(bytes: &[u8], at: usize, start: usize, tag: u64) -> Result<WireField<'_>, WireFault>
     requires behind_tag { at < start }
@@ -60,19 +65,36 @@ fn payload(bytes: &[u8], at: usize, start: usize, tag: u64) -> Result<WireField<
             let (value, size) = varint(rest, at)?;
             Ok(placed(number, at, start, size, Payload::Varint(value)))
         }
-        1 => {
-            let eight = front(rest, at, 8)?;
-            Ok(placed(number, at, start, 8, Payload::Eight(eight)))
-        }
         2 => {
             let (len, size) = varint(rest, at)?;
             let block = front(&rest[size..], at, len)?;
             Ok(placed(number, at, start + size, block.len(), Payload::Block(block)))
         }
-        5 => {
-            let four = front(rest, at, 4)?;
-            Ok(placed(number, at, start, 4, Payload::Four(four)))
+        wire => {
+            let size = fixed_size(wire, at)?;
+            let content = front(rest, at, size)?;
+            let payload = if size == 8 {
+                Payload::Eight(content)
+            } else {
+                Payload::Four(content)
+            };
+            Ok(placed(number, at, start, content.len(), payload))
         }
+    }
+}
+
+/// The size of a payload whose wire type says it. No known field has one.
+#[inline(never)]
+fn fixed_size(wire: u64, at: usize) -> Result<u64, WireFault>
+    requires no_varint { wire ≢ 0 }
+    requires no_block { wire ≢ 2 }
+    ensures eight { wire ≡ 1 → result ≡ Ok 8 }
+    ensures four { wire ≡ 5 → result ≡ Ok 4 }
+    ensures fault { wire ≢ 1 → wire ≢ 5 → result ≡ Err (if wire == 3 || wire == 4 then faults.GroupWire at else faults.BadWire at) }
+{
+    match wire {
+        1 => Ok(8),
+        5 => Ok(4),
         3 | 4 => Err(WireFault::GroupWire(at)),
         _ => Err(WireFault::BadWire(at)),
     }
@@ -109,8 +131,22 @@ fn front(bytes: &[u8], at: usize, len: u64) -> Result<&[u8], WireFault>
     Ok(&bytes[..len as usize])
 }
 
-/// The number at the front of the bytes, and the size of its varint.
+/// The number at the front of the bytes, and the size of its varint. That of nearly all tags, lengths and small
+/// numbers is one byte.
+#[inline]
 fn varint(bytes: &[u8], at: usize) -> Result<(u64, usize), WireFault>
+    ensures exact { result ≡ varint_at at bytes.now }
+    ensures size { IfOk result (λ v. (0 < v.1) × (v.1 ≤ length bytes.now)) }
+{
+    match bytes.first() {
+        Some(&byte) if byte < 128 => Ok((u64::from(byte), 1)),
+        _ => long_varint(bytes, at),
+    }
+}
+
+/// The same of a varint of any size, group by group.
+#[inline(never)]
+fn long_varint(bytes: &[u8], at: usize) -> Result<(u64, usize), WireFault>
     ensures exact { result ≡ varint_at at bytes.now }
     ensures size { IfOk result (λ v. (0 < v.1) × (v.1 ≤ length bytes.now)) }
 {

@@ -11,7 +11,7 @@ use Rattle.group_msgs.specs.Rules.{at_most, fields_fault, range_fault}
 use Rattle.group_msgs.specs.Values.{message_of}
 use Rattle.group_msgs.specs.Peer.{unless_broken}
 use Rattle.group_msgs.specs.Ranges.{IsInRange}
-use Rattle.group_msgs.proofs.RuleLemmas.{or-none}
+use Rattle.client_msgs.proofs.SizesLemmas.{or-none}
 use Rattle.group_msgs.proofs.PeerLemmas.{kept-whole, reads-fault, message-in_range}
 use Rattle.group_msgs.proofs.read.checked.Goals as goal
 

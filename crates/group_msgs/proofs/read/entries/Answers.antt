@@ -4,7 +4,7 @@ use Rattle.group_msgs.specs.declared.scalars.Scalars.{Scalars}
 use Rattle.group_msgs.specs.Gathered.{seen}
 use Rattle.group_msgs.specs.Rules.{entry_fault, entries_fault}
 use Rattle.group_msgs.specs.Values.{entry_of}
-use Rattle.group_msgs.proofs.RuleLemmas.{or-none}
+use Rattle.client_msgs.proofs.SizesLemmas.{or-none}
 use Rattle.group_msgs.proofs.ListLemmas.{made-more}
 use Rattle.group_msgs.proofs.read.entries.Goals as goal
 

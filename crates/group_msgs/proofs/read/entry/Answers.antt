@@ -1,7 +1,7 @@
 use Rattle.group_msgs.specs.Known.{u32_at}
 use Rattle.group_msgs.specs.Gathered.{seen}
 use Rattle.group_msgs.specs.Rules.{index_rule, kind_fault}
-use Rattle.group_msgs.proofs.RuleLemmas.{or-none}
+use Rattle.client_msgs.proofs.SizesLemmas.{or-none}
 use Rattle.group_msgs.proofs.read.entry.Goals as goal
 
 pub body-requires : goal.body-requires

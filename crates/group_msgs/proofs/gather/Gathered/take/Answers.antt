@@ -6,8 +6,8 @@ use Rattle.proto_wire.specs.Fields.{Field, Sequence, field_of, sequence_at}
 use Rattle.proto_wire.specs.Reading.{varint_under, embedded, is_member, run_so_far, first_fault_in}
 use Rattle.proto_wire.proofs.ReadingLemmas.{u64_of-push}
 use Rattle.client_msgs.proofs.MemberLemmas.{embedded-member}
-use Rattle.group_msgs.specs.Reading.{listed_fault, member_of}
-use Rattle.group_msgs.specs.Gathered.{IsRun}
+use Rattle.group_msgs.specs.Reading.{listed_fault, member_fault, member_of}
+use Rattle.group_msgs.specs.Gathered.{IsRun, Tells}
 use Rattle.group_msgs.proofs.MemberLemmas.{IsLast-push}
 use Rattle.group_msgs.proofs.gather.Gathered.take.Goals as goal
 
@@ -46,5 +46,7 @@ returns-clause-fault c =
     let f = field_of c.args.field in
     let is : is_member 2 8 f ≡ true = search rules in
     let e = embedded-member 2 8 c.args.field c.args.bytes.now is c.requires.within.in_order c.requires.slice in
-    IfErr-weaker c.read_on.result _ _ (λ fault first.
-    cond-true (is_member 2 8 f) _ _ is ∙ ap (λ (n : ℕ). first_fault_in (listed_fault n) (embedded f)) (sym c.begin.ensures.number) ∙ ap (first_fault_in (listed_fault c.begin.new.self.number)) e ∙ first) c.read_on.ensures.fault
+    let inner = sequence_at c.args.field.content_at (drop c.args.field.content_at (take c.args.field.next c.args.bytes.now)) in
+    let same : first_fault_in (listed_fault c.begin.new.self.number) inner ≡ member_fault f =
+    sym (cond-true (is_member 2 8 f) _ _ is ∙ ap (λ (n : ℕ). first_fault_in (listed_fault n) (embedded f)) (sym c.begin.ensures.number) ∙ ap (first_fault_in (listed_fault c.begin.new.self.number)) e) in
+    IfErr-weaker c.read_on.result _ _ (λ fault told. subst (Tells fault) same told) c.read_on.ensures.fault

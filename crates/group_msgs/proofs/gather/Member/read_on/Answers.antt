@@ -6,8 +6,8 @@ use Rattle.proto_wire.specs.declared.field.WireField.{WireField}
 use Rattle.proto_wire.specs.Fields.{Field, field_of}
 use Rattle.proto_wire.specs.Walk.{LeadsOn, IsWithin}
 use Rattle.group_msgs.specs.Reading.{listed_fault}
-use Rattle.group_msgs.specs.Gathered.{IsRun}
-use Rattle.group_msgs.proofs.Walk.{rest_of, walked-start, walked-field, walked-inside}
+use Rattle.group_msgs.specs.Gathered.{IsRun, Tells}
+use Rattle.group_msgs.proofs.Walk.{rest_of, walked-start, walked-field, tells-inside}
 use Rattle.group_msgs.proofs.gather.Member.read_on.Goals as goal
 
 pub loop-field-init : goal.loop-field-init
@@ -24,8 +24,9 @@ returns-in_err-take-clause-fault c =
     let p = err_from_is_err_and c.from_residual-in_err-take.result c.from_residual-in_err-take.ensures.1 in
     let walks = subst (λ (o : Option WireField). LeadsOn (Ok o) c.loop-field.at c.args.bytes.now) c.in-Some.is c.in_ok-field.ensures.walks in
     let f = field_of c.in-Some.field in
-    let inside = subst (λ (n : ℕ). listed_fault n f ≡ Some c.in_err-take.field-0.0) c.loop-field.invariant.number c.in_err-take.ensures.fault in
-    rw (p.1, p.2) (walked-inside (listed_fault c.args.self.now.number) _ c.args.bytes.now c.args.from c.loop-field.at f (rest_of c.args.bytes.now c.in-Some.field.next) c.in_err-take.field-0.0 inside walks c.loop-field.invariant.walked)
+    let e = c.in_err-take.field-0.0 in
+    let inside = subst (λ (n : ℕ). Tells e (listed_fault n f)) c.loop-field.invariant.number c.in_err-take.ensures.fault in
+    rw (p.1, p.2) (tells-inside (listed_fault c.args.self.now.number) _ c.args.bytes.now c.args.from c.loop-field.at f (rest_of c.args.bytes.now c.in-Some.field.next) e inside walks c.loop-field.invariant.walked)
 
 pub loop-field-preserved : goal.loop-field-preserved
 loop-field-preserved c =

@@ -1,7 +1,7 @@
 use Rattle.std.proofs.Common.{sym, ◌∙◌, arith}
 use Rattle.std.proofs.lemmas.List.{take_rest}
-use Rattle.group_msgs.proofs.StrictLemmas.{backup-tagged, restore-tagged, expose-tagged, delete-tagged, not-canonical, tag-known}
-use Rattle.group_msgs.proofs.strict.is_canonical_request.Goals as goal
+use Rattle.client_msgs.proofs.StrictLemmas.{backup-tagged, restore-tagged, expose-tagged, delete-tagged, not-canonical, tag-known}
+use Rattle.client_msgs.proofs.strict.is_canonical_request.Goals as goal
 
 pub returns-then-bytes-lt2 : goal.returns-then-bytes-lt2
 returns-then-bytes-lt2 c = not-canonical c.args.bytes.now (λ request spells. omega (arith, c.if-bytes-lt2.true, spells.long))

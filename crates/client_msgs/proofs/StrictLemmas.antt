@@ -21,7 +21,7 @@ use Rattle.client_msgs.specs.Reading.{request_from, if_sized, request_in, reques
 use Rattle.client_msgs.specs.Sizes.{outside, size_fault, FitsRequest}
 use Rattle.client_msgs.specs.Strict.{is_written_as, is_canonical, IsCanonical}
 use Rattle.client_msgs.proofs.RoundTrip.{request_of-canonical}
-use Rattle.group_msgs.proofs.RuleLemmas.{or-none}
+use Rattle.client_msgs.proofs.SizesLemmas.{or-none}
 
 -- ---- short lists by their bytes
 

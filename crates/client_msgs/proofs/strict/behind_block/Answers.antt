@@ -1,8 +1,8 @@
 use Rattle.std.proofs.Common.{◌≡◌, ℕ, ◌+◌, ◌-◌, ◌++◌, List, length, get_or, take, drop, refl, sym, ap, ◌∙◌, arith}
 use Rattle.std.proofs.lemmas.List.{take_rest}
 use Rattle.proto_wire.specs.Written.{block_field}
-use Rattle.group_msgs.proofs.StrictLemmas.{begins, begins-from}
-use Rattle.group_msgs.proofs.strict.behind_block.Goals as goal
+use Rattle.client_msgs.proofs.StrictLemmas.{begins, begins-from}
+use Rattle.client_msgs.proofs.strict.behind_block.Goals as goal
 
 pub returns-then-bytes-lt2-clause-all : goal.returns-then-bytes-lt2-clause-all
 returns-then-bytes-lt2-clause-all c block rest low high is =

@@ -2,7 +2,7 @@ use Rattle.std.proofs.Common.{[], length, sym, ap, ◌∙◌}
 use Rattle.std.proofs.lemmas.Bool.{eq-eqb}
 use Rattle.std.proofs.lemmas.List.{append-nil}
 use Rattle.proto_wire.specs.Written.{block_field}
-use Rattle.group_msgs.proofs.strict.is_expose.Goals as goal
+use Rattle.client_msgs.proofs.strict.is_expose.Goals as goal
 
 pub returns-in-Some-clause-all : goal.returns-in-Some-clause-all
 returns-in-Some-clause-all c secret sizes is =

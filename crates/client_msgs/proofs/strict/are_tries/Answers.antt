@@ -1,7 +1,7 @@
 use Rattle.std.proofs.Common.{◌≤◌, get_or, arith}
 use Rattle.std.proofs.lemmas.Bool.{eqb-true, eq-eqb}
-use Rattle.group_msgs.proofs.StrictLemmas.{tries_in, tries-from_2, tries-from_3}
-use Rattle.group_msgs.proofs.strict.are_tries.Goals as goal
+use Rattle.client_msgs.proofs.StrictLemmas.{tries_in, tries-from_2, tries-from_3}
+use Rattle.client_msgs.proofs.strict.are_tries.Goals as goal
 
 pub returns-then-field-lt2-clause-all : goal.returns-then-field-lt2-clause-all
 returns-then-field-lt2-clause-all c tries are is =

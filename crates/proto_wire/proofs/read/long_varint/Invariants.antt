@@ -1,7 +1,7 @@
 use Rattle.std.proofs.Common.{◌≡◌, ◌-◌, ◌*◌, ◌^◌, ◌<◌, ◌≤◌, drop}
 use Rattle.proto_wire.specs.Varint.{number_in, varint_at}
 use Rattle.proto_wire.proofs.NumberLemmas.{with_low}
-use Rattle.proto_wire.proofs.read.varint.Given as goal
+use Rattle.proto_wire.proofs.read.long_varint.Given as goal
 
 -- what was read is the low part of the number, and the rest is still to come
 abbrev pub invariant-loop-i : goal.invariant-loop-i
