@@ -15,10 +15,10 @@ use Rattle.svr_base.specs.declared.message.Reply.TheVariants.{Applied, Stale, Ta
 use Rattle.record_table.specs.declared.status.TheConstants.{OK}
 use Rattle.record_table.specs.Rules.{act}
 use Rattle.record_table.specs.Places.{ClientAsk, Places, ask_at, reply_at, is_ask_of, is_mismatch, is_wrong_guess, wrong_guesses, IsApplied, ActsAs}
-use Rattle.record_table.specs.Laws.{NoBackup, NoDelete}
+use Rattle.record_table.specs.Laws.{NoBackup, NoDelete, row_after}
 use Rattle.record_table.proofs.Clients.{client_eq-self}
 use Rattle.record_table.specs.Table.{kept_in}
-use Rattle.record_table.proofs.Turns.{Turn, others, refused, unknown, acts, row_after, turn_at}
+use Rattle.record_table.proofs.Turns.{Turn, others, refused, unknown, acts, turn_at}
 use Rattle.record_table.proofs.Guesses.{Standing, miss, after_request}
 
 -- a place is an ask of the client for this, and acts
@@ -101,7 +101,7 @@ module _ (secret : List ℕ) (pin : Hash) (tries wrong : ℕ) (Shown Undeleted S
       let zero_missed : missed client place reply ≡ 0 =
       missed-quiet client place reply (ap (λ r. unwrap_or (option_map is_mismatch r) false) done ∙ quiet request) in
       omega arith)
-  after_turn client before after place reply (acts number request is above e done) new shows still stood =
+  after_turn client before after place reply (acts number request is puts above e done) new shows still stood =
       subst (λ row. Standing secret pin tries (wrong + missed client place reply) Shown' Undeleted' (kept_in row)) (sym e)
       (subst (λ n. Standing secret pin tries (wrong + n) Shown' Undeleted' (act request (kept_in before)).0)
       (sym (missed-own client place reply (Applied (act request (kept_in before)).1) (is_own client place number request is) done))
@@ -185,7 +185,7 @@ module _ (limit : ℕ) (places : Places) (client : ClientId) where
     just_backed Shown Undeleted (refused same e) acted some kept = absurd (e acted.0)
     just_backed Shown Undeleted (unknown number request is only_backups none e done) acted some kept =
         absurd (only_backups secret pin tries (ap request_in (sym is ∙ acted.1.1)))
-    just_backed {before = before} Shown Undeleted (acts number request is above e done) acted some kept =
+    just_backed {before = before} Shown Undeleted (acts number request is puts above e done) acted some kept =
         subst (λ row. Standing secret pin tries 0 Shown Undeleted (kept_in row)) (sym e)
         (subst (λ r. Standing secret pin tries 0 Shown Undeleted (act r (kept_in before)).0) (sym (ap request_in (sym is ∙ acted.1.1)))
         (record { secret_same = refl; pin_same = refl; counted = omega arith; positive = some; shown = λ h. cc; undeleted = kept }))

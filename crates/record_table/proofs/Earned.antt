@@ -17,10 +17,10 @@ use Rattle.record_table.specs.declared.status.TheConstants.{OK, MISSING, ERROR}
 use Rattle.record_table.specs.Rules.{act, after_guess, after_wrong_guess}
 use Rattle.svr_base.specs.Sizes.{IsValid}
 use Rattle.record_table.specs.Places.{ClientAsk, Places, fold_places, ask_at, reply_at, is_ask_of, is_mismatch, IsApplied, ActsAs, wrong_guesses}
-use Rattle.record_table.specs.Laws.{AreValid, NoBackup, NoDelete, Earned, GuessesEnd, DataIsEarned, record_of}
+use Rattle.record_table.specs.Laws.{AreValid, NoBackup, NoDelete, Earned, GuessesEnd, DataIsEarned, record_of, row_after}
 use Rattle.record_table.proofs.Clients.{client_eq-self}
 use Rattle.record_table.specs.Table.{kept_in}
-use Rattle.record_table.proofs.Turns.{Turn, others, refused, unknown, acts, row_after, turn_at}
+use Rattle.record_table.proofs.Turns.{Turn, others, refused, unknown, acts, turn_at}
 use Rattle.record_table.proofs.Guesses.{Stands, Standing}
 use Rattle.record_table.proofs.Backups.{ShownBy, stands, none_wrong, request_in, one_more, none_more, missed, missed-quiet, not_own}
 
@@ -110,7 +110,7 @@ module _ (limit : ℕ) (places : Places) (client : ClientId) (k : ℕ) where
       longer (λ s p n. not_own client (ask_at places (suc k)) (reply_at limit places (suc k)) (Backup s p n) e) (earlier (subst (λ r. IsSome (kept_in r)) same some))
   from_turn before after (refused same e) earlier some = longer (λ s p n h. e h.0) (earlier (subst (λ r. IsSome (kept_in r)) same some))
   from_turn before after (unknown number request is only none e done) earlier some = absurd (let t = subst (λ r. IsSome (kept_in r)) e some in cc)
-  from_turn before after (acts number request is above e done) earlier some =
+  from_turn before after (acts number request is puts above e done) earlier some =
       from_act request (kept_in before)
       (subst (λ r. IsSomeAnd r IsApplied) (sym done) tt, (number, is))
       (subst (λ r. IsSome (kept_in r)) e some) earlier (λ wanted h. ap request_in (sym is ∙ h.1.1))
@@ -191,7 +191,7 @@ giving secret left (unknown number request is only none e done) mine r = absurd 
     nothing (Restore p) e = cc
     nothing Delete e = cc
     nothing (Expose s) e = cc
-giving {before = before} secret left (acts number request is above e done) mine r = record {
+giving {before = before} secret left (acts number request is puts above e done) mine r = record {
   number = number;
   request = request;
   place_is = is;

@@ -7,9 +7,13 @@ mod Guesses
 mod Backups
 mod Earned
 mod Placed
-mod Searched
 mod SlotsLemmas
 mod Sound
 mod Copied
 mod Spelled
 mod Prefixes
+mod Inserted
+mod PagesLemmas
+mod NumberedLemmas
+mod Tables
+mod RowsFollow

@@ -6,9 +6,9 @@ use Rattle.svr_base.specs.declared.row.Row.{Row}
 use Rattle.svr_base.specs.declared.message.Reply.{Reply}
 use Rattle.record_table.specs.Clients.{client_eq}
 use Rattle.record_table.specs.Places.{ClientAsk, Places, is_ask_of, IsApplied}
-use Rattle.record_table.specs.Laws.{NumbersRise}
+use Rattle.record_table.specs.Laws.{NumbersRise, row_after}
 use Rattle.record_table.proofs.Clients.{client_eq-self}
-use Rattle.record_table.proofs.Turns.{Turn, others, refused, unknown, acts, row_after, turn_at}
+use Rattle.record_table.proofs.Turns.{Turn, others, refused, unknown, acts, turn_at}
 
 -- an ask of the client is one
 own : (client : ClientId) (place : Option ClientAsk) (ask : ClientAsk) → place ≡ Some ask → ask.client ≡ client → is_ask_of client place ≡ true
@@ -25,9 +25,9 @@ rises : (n : ℕ) {client : ClientId} {before after : Option Row} {place : Optio
 rises n (others e same) h = subst (LastFrom n) (sym same) h
 rises n (refused same e) h = subst (LastFrom n) (sym same) h
 rises n (unknown number request place_is new none e done) h = absurd (subst (LastFrom n) none h)
-rises n {before = Some row} (acts number request e above after done) h =
+rises n {before = Some row} (acts number request e puts above after done) h =
     subst (LastFrom n) (sym after) (let higher : row.last < number = above row refl in omega arith)
-rises n {before = None} (acts number request e above after done) h = absurd h
+rises n {before = None} (acts number request e puts above after done) h = absurd h
 
 module _ (limit : ℕ) (places : Places) (client : ClientId) (n : ℕ) where
   rises_from : (i d : ℕ) → LastFrom n (row_after limit places client i) → LastFrom n (row_after limit places client (i + d))
@@ -43,7 +43,7 @@ becomes_last {client} {place = place} ask (others e same) is mine acted known =
     absurd (let t : is_ask_of client place ≡ true = own client place ask is mine in cc)
 becomes_last ask (refused same e) is mine acted known = absurd (e acted)
 becomes_last ask (unknown number request place_is new none e done) is mine acted known = absurd (let known_none = subst IsSome e known in cc)
-becomes_last ask (acts number request e above after done) is mine acted known =
+becomes_last ask (acts number request e puts above after done) is mine acted known =
     subst (LastFrom ask.number) (sym after) (let same : ask.number ≡ number = cc in omega arith)
 
 -- and it is above the last one before
@@ -53,9 +53,9 @@ is_above n {client} {place = place} ask (others e same) is mine acted from =
     absurd (let t : is_ask_of client place ≡ true = own client place ask is mine in cc)
 is_above n ask (refused same e) is mine acted from = absurd (e acted)
 is_above n ask (unknown number request place_is new none e done) is mine acted from = absurd (subst (LastFrom n) none from)
-is_above n {before = Some row} ask (acts number request e above after done) is mine acted from =
+is_above n {before = Some row} ask (acts number request e puts above after done) is mine acted from =
     let higher : row.last < number = above row refl in let same : ask.number ≡ number = cc in omega arith
-is_above n {before = None} ask (acts number request e above after done) is mine acted from = absurd from
+is_above n {before = None} ask (acts number request e puts above after done) is mine acted from = absurd from
 
 pub numbers_rise : (limit : ℕ) (places : Places) → NumbersRise limit places
 numbers_rise limit places zero k a b below first second same acts_i acts_k known = cc

@@ -1,34 +1,34 @@
 -- What finding and putting a row do, where the place of the row is known.
-use Rattle.std.proofs.Common.{◌≡◌, ℕ, zero, suc, ◌<◌, List, [], ◌∷◌, length, refl, sym, ap, subst, ◌∙◌, arith}
+use Rattle.std.proofs.Common.{◌≡◌, ℕ, zero, suc, ◌<◌, ◌≤◌, List, [], ◌∷◌, length, refl, sym, ap, subst, ◌∙◌, arith}
 use Rattle.std.specs.Prelude.{Option, Some, None, slice_get, slice_set, slice_index_or, insert, IsSomeAnd}
 use Rattle.std.specs.declared.cmp.Ordering.{Ordering}
 use Rattle.std.specs.declared.cmp.Ordering.TheVariants.{Less, Equal, Greater}
 use Rattle.std.specs.Ordering.{is_eq, match_ordering}
+use Rattle.std.proofs.lemmas.Option.{slice_get_within, get_or_from_slice_get}
 use Rattle.svr_base.specs.declared.ids.ClientId.{ClientId}
 use Rattle.svr_base.specs.declared.row.Row.{Row}
 use Rattle.record_table.specs.Clients.{client_cmp}
 use Rattle.record_table.specs.Table.{row_of, put_row, IsRising}
-use Rattle.record_table.specs.Placed.{IsRowAt, IsGap}
 use Rattle.record_table.proofs.Clients.{client_total, flip, client_cmp-same, client_cmp-self, client_eq-self}
 use Rattle.record_table.proofs.Rows.{skip, take_head}
+
+-- the row at the place is the client's
+abbrev pub IsRowAt : List Row → ClientId → ℕ → Type 0
+IsRowAt rows client at = IsSomeAnd (slice_get rows at) (λ row. row.client ≡ client)
+
+-- the rows below the place come before the client, and those from it on come after it
+pub record IsGap (rows : List Row) (client : ClientId) (at : ℕ) : Type 0 where
+  pub within : at ≤ length rows
+  pub before : (i : ℕ) (d : Row) → i < at → client_cmp (slice_index_or rows i d).client client ≡ Less
+  pub after : (i : ℕ) (d : Row) → at ≤ i → i < length rows → client_cmp (slice_index_or rows i d).client client ≡ Greater
 
 pub IsRising-tail : (r : Row) (rows : List Row) → IsRising (r ∷ rows) → IsRising rows
 IsRising-tail r rows rising i j d low high = rising (suc i) (suc j) d (omega arith) (omega arith)
 
-pub slice_get-is : (rows : List Row) (at : ℕ) (row d : Row) → slice_get rows at ≡ Some row → slice_index_or rows at d ≡ row
-slice_get-is [] at row d e = cc
-slice_get-is (r ∷ rows) zero row d e = cc
-slice_get-is (r ∷ rows) (suc at) row d e = slice_get-is rows at row d e
-
-pub slice_get-below : (rows : List Row) (at : ℕ) (row : Row) → slice_get rows at ≡ Some row → at < length rows
-slice_get-below [] at row e = cc
-slice_get-below (r ∷ rows) zero row e = omega arith
-slice_get-below (r ∷ rows) (suc at) row e = let l = slice_get-below rows at row e in omega arith
-
 -- the head comes before each later row
 head_before : (r : Row) (rows : List Row) (at : ℕ) (row : Row) → IsRising (r ∷ rows) → slice_get rows at ≡ Some row → client_cmp r.client row.client ≡ Less
 head_before r rows at row rising e =
-    subst (λ s. client_cmp r.client s.client ≡ Less) (slice_get-is rows at row row e) (rising 0 (suc at) row (omega arith) (let l = slice_get-below rows at row e in omega arith))
+    subst (λ s. client_cmp r.client s.client ≡ Less) (get_or_from_slice_get rows at row row e) (rising 0 (suc at) row (omega arith) (let l = slice_get_within rows at row e in omega arith))
 
 -- the row at a place is found by its client
 pub row_of-at : (rows : List Row) (at : ℕ) (row : Row) → IsRising rows → slice_get rows at ≡ Some row → row_of rows row.client ≡ Some row

@@ -1,131 +1,187 @@
--- Rows that are added to slots, or written in one.
-use Rattle.std.proofs.Common.{◌≡◌, ◌≢◌, ℕ, zero, suc, ◌<◌, ◌≤◌, Bool, true, false, List, [], ◌∷◌, ◌++◌, map, length, take, drop, refl, sym, ap, subst, ◌∙◌, arith, ◌⊎◌, inl, inr}
-use Rattle.std.specs.Prelude.{Option, Some, None, slice_get, slice_set, slice_index_or, insert, IsSome, IsSomeAnd, All, nat_lt, nat_eq}
-use Rattle.std.specs.declared.cmp.Ordering.TheVariants.{Less, Equal}
-use Rattle.std.proofs.Math.ListN.{length-set, get_or-append}
-use Rattle.std.proofs.Math.Seq.{get_or-append_seam}
+-- Rows in slots: found by numbers, added, and written in their slots.
+use Rattle.std.proofs.Common.{◌≡◌, ◌≢◌, ℕ, ◌-◌, ◌+◌, ◌<◌, ◌≤◌, Bool, true, false, List, [], ◌∷◌, ◌++◌, length, refl, sym, ap, subst, ◌∙◌, arith, ◌⊎◌, inl, inr}
+use Rattle.std.specs.Prelude.{Some, slice_get, slice_set, slice_index, slice_index_or, insert, IsSome, IsSomeAnd, All, nat_lt, nat_eq}
+use Rattle.std.specs.declared.cmp.Ordering.TheVariants.{Less, Equal, Greater}
+use Rattle.std.specs.Cmp.{nat_cmp_is}
 use Rattle.std.proofs.lemmas.Bool.{ltb-true, ltb-false, eqb-true, eqb-false}
-use Rattle.std.proofs.lemmas.List.{get_or-map, get_or_default, get_or-set_same, get_or-set_other, take-map, drop-map, map-append, same_lists, length-append}
+use Rattle.std.proofs.lemmas.List.{get_or-map, get_or_default, get_or-set_same, get_or-set_other, get_or_append_left, get_or_at, length-map, length-set, same_lists, length-append}
 use Rattle.std.proofs.lemmas.List.Edits.{length-insert}
+use Rattle.std.proofs.lemmas.Option.{slice_get-get_or}
 use Rattle.svr_base.specs.declared.ids.ClientId.{ClientId}
 use Rattle.svr_base.specs.declared.row.Row.{Row}
 use Rattle.record_table.specs.declared.store.TheConstants.{MOST_ROWS}
-use Rattle.record_table.specs.Clients.{client_cmp}
-use Rattle.record_table.specs.Table.{row_of, put_row, kept_in, IsRising}
 use Rattle.record_table.specs.declared.change.Change.{Change}
-use Rattle.record_table.specs.Changes.{kept_after}
-use Rattle.record_table.specs.Placed.{IsRowAt, IsGap}
+use Rattle.record_table.specs.Clients.{client_cmp, IsNumberOf}
+use Rattle.record_table.specs.Table.{row_of, put_row, kept_in, IsRising}
+use Rattle.record_table.specs.Changes.{kept_after, changed_row}
 use Rattle.record_table.specs.Slots.{no_row, rows_in, IsSorted}
-use Rattle.record_table.proofs.Clients.{client_cmp-self}
-use Rattle.record_table.proofs.Placed.{slice_get-below, row_of-at, row_of-gap, put_row-at, put_row-gap, IsRising-put}
+use Rattle.record_table.specs.Numbered.{numbers_in, IsSlotOf, IsBetween}
+use Rattle.record_table.proofs.Clients.{client_total, client_cmp-same, client_cmp-self, flip}
+use Rattle.record_table.proofs.Placed.{IsRowAt, IsGap, row_of-at, row_of-gap, put_row-at, put_row-gap, IsRising-put}
+use Rattle.record_table.proofs.Inserted.{map-insert, All-insert}
+use Rattle.record_table.proofs.Spelled.{client_cmp-numbers}
 
-all_cons : (P : ℕ → Type 0) (x : ℕ) (xs : List ℕ) → P x → All P xs → All P (x ∷ xs)
-all_cons P x xs p ps zero d h = p
-all_cons P x xs p ps (suc k) d h = ps k d (omega arith)
-
-all_tail : (P : ℕ → Type 0) (x : ℕ) (xs : List ℕ) → All P (x ∷ xs) → All P xs
-all_tail P x xs ps k d h = ps (suc k) d (omega arith)
-
-pub length-rows_in : (order : List ℕ) (slots : List Row) → length (rows_in order slots) ≡ length order
-length-rows_in [] slots = refl
-length-rows_in (slot ∷ order) slots = ap suc (length-rows_in order slots)
-
--- a slot more leaves those that are listed
-rows_in-more : (order : List ℕ) (slots : List Row) (row : Row) → All (λ slot. slot < length slots) order → rows_in order (slots ++ row ∷ []) ≡ rows_in order slots
-rows_in-more [] slots row within = refl
-rows_in-more (slot ∷ order) slots row within =
-    let here = get_or-append slots (row ∷ []) no_row slot (within 0 0 (omega arith)) in
-    let later = rows_in-more order slots row (all_tail (λ s. s < length slots) slot order within) in
-    λ i. here i ∷ later i
-
--- a new slot that is listed at a place adds its row there
-pub rows_in-insert : (order : List ℕ) (slots : List Row) (row : Row) (at : ℕ) → All (λ slot. slot < length slots) order
-    → rows_in (insert order at (length slots)) (slots ++ row ∷ []) ≡ insert (rows_in order slots) at row
-rows_in-insert order slots row at within =
-    let f : ℕ → Row = λ slot. slice_index_or (slots ++ row ∷ []) slot no_row in
-    let parts : map f (insert order at (length slots)) ≡ take at (map f order) ++ f (length slots) ∷ drop at (map f order) =
-    map-append f (take at order) (length slots ∷ drop at order)
-    ∙ (λ i. sym (take-map f at order) i ++ f (length slots) ∷ sym (drop-map f at order) i) in
-    parts
-    ∙ (λ i. take at (rows_in-more order slots row within i) ++ get_or-append_seam slots row [] no_row i ∷ drop at (rows_in-more order slots row within i))
-
-within_insert : (n m : ℕ) (order : List ℕ) (at : ℕ) → n < m → All (λ slot. slot < n) order → All (λ slot. slot < m) (insert order at n)
-within_insert n m [] zero h within = all_cons (λ slot. slot < m) n [] h (λ k d l. absurd (omega arith))
-within_insert n m [] (suc at) h within = all_cons (λ slot. slot < m) n [] h (λ k d l. absurd (omega arith))
-within_insert n m (x ∷ order) zero h within =
-    all_cons (λ slot. slot < m) n (x ∷ order) h (λ k d l. let w = within k d l in omega arith)
-within_insert n m (x ∷ order) (suc at) h within =
-    all_cons (λ slot. slot < m) x (insert order at n) (let w = within 0 0 (omega arith) in omega arith)
-    (within_insert n m order at h (all_tail (λ slot. slot < n) x order within))
-
--- the row of a gap is added with its slot
-pub IsSorted-insert : (order : List ℕ) (slots : List Row) (row : Row) (at : ℕ) → IsSorted order slots → IsGap (rows_in order slots) row.client at
-    → length order < MOST_ROWS → IsSorted (insert order at (length slots)) (slots ++ row ∷ [])
-IsSorted-insert order slots row at sorted gap room =
-    let fits : at ≤ length order = (let w = gap.within in let l = length-rows_in order slots in omega arith) in
-    let longer = length-insert order at (length slots) fits in
-    let more = length-append slots (row ∷ []) in
-    let listed = sorted.listed in
-    record {
-      listed = omega arith;
-      within = within_insert (length slots) (length (slots ++ row ∷ [])) order at (omega arith) sorted.within;
-      few = omega arith;
-      rising =
-          subst IsRising (put_row-gap (rows_in order slots) row at gap ∙ sym (rows_in-insert order slots row at sorted.within))
-          (IsRising-put (rows_in order slots) row sorted.rising);
-    }
+length-rows_in : (order : List ℕ) (slots : List Row) → length (rows_in order slots) ≡ length order
+length-rows_in order slots = length-map order (λ slot. slice_index_or slots slot no_row)
 
 -- the row at a place of the list
-pub rows_in-at : (order : List ℕ) (slots : List Row) (at : ℕ) (d : ℕ) (e : Row) → at < length order
+rows_in-at : (order : List ℕ) (slots : List Row) (at d : ℕ) (e : Row) → at < length order
     → slice_index_or (rows_in order slots) at e ≡ slice_index_or slots (slice_index_or order at d) no_row
 rows_in-at order slots at d e h = get_or-map (λ slot. slice_index_or slots slot no_row) order at d e h
 
-not_less_itself : (a b : ClientId) → client_cmp a b ≡ Less → ¬ (a ≡ b)
-not_less_itself a b less e = let level = subst (λ c. client_cmp a c ≡ Equal) e (client_cmp-self a) in cc
+-- ---- clients by their numbers
+
+below_by_number : (a b : ClientId) (m n : ℕ) → IsNumberOf a m → IsNumberOf b n → m < n → client_cmp a b ≡ Less
+below_by_number a b m n is_a is_b less = client_cmp-numbers a b m n is_a is_b ∙ sym (nat_cmp_is m n Less less)
+
+same_by_number : (a b : ClientId) (n : ℕ) → IsNumberOf a n → IsNumberOf b n → a ≡ b
+same_by_number a b n is_a is_b = client_cmp-same a b (client_cmp-numbers a b n n is_a is_b ∙ sym (nat_cmp_is n n Equal refl))
+
+-- ---- a number between the numbers of the list
+
+module _ (order numbers : List ℕ) (slots : List Row) (client : ClientId) (number at : ℕ) (sorted : IsSorted order numbers slots) (mine : IsNumberOf client number)
+    (between : IsBetween (numbers_in order numbers) number at) where
+  abbrev rows : List Row
+  rows = rows_in order slots
+
+  abbrev at_place : ℕ → Row
+  at_place i = slice_index_or rows i no_row
+
+  many : length rows ≡ length order
+  many = length-rows_in order slots
+
+  many_numbers : length (numbers_in order numbers) ≡ length order
+  many_numbers = length-map order (λ slot. slice_index numbers slot)
+
+  -- the number of the row at a place
+  number_at : (i : ℕ) → i < length order → IsNumberOf (at_place i).client (slice_index (numbers_in order numbers) i)
+  number_at i h =
+      let row = rows_in-at order slots i 0 no_row h in
+      let number = get_or-map (λ slot. slice_index numbers slot) order i 0 0 h in
+      subst (λ n. IsNumberOf (at_place i).client n) (sym number)
+      (subst (λ (r : Row). IsNumberOf r.client (slice_index numbers (slice_index order i))) (sym row)
+      (sorted.clients (slice_index order i) (sorted.within i 0 h)))
+
+  before : (i : ℕ) → i < at → (t : Bool) → nat_lt (i + 1) at ≡ t → client_cmp (at_place i).client client ≡ Less
+  before i h false e =
+      let last : at - 1 ≡ i = (let l = ltb-false (i + 1) at e in omega arith) in
+      below_by_number (at_place i).client client (slice_index (numbers_in order numbers) i) number
+      (number_at i (let w = between.within in let m = many_numbers in omega arith)) mine
+      (subst (λ k. slice_index (numbers_in order numbers) k < number) last (between.before (omega arith)))
+  before i h true e =
+      let l = ltb-true (i + 1) at e in
+      let w = between.within in
+      let m = many_numbers in
+      let r = many in
+      let inside : at - 1 < length order = omega arith in
+      client_total.trans (at_place i).client (at_place (at - 1)).client client (sorted.rising i (at - 1) no_row (omega arith) (omega arith))
+      (below_by_number (at_place (at - 1)).client client (slice_index (numbers_in order numbers) (at - 1)) number (number_at (at - 1) inside) mine
+      (between.before (omega arith)))
+
+  after : (i : ℕ) → at ≤ i → i < length order → (t : Bool) → nat_lt at i ≡ t → client_cmp (at_place i).client client ≡ Greater
+  after i low high false e =
+      let same : at ≡ i = (let l = ltb-false at i e in omega arith) in
+      let m = many_numbers in
+      flip client (at_place i).client Less
+      (below_by_number client (at_place i).client number (slice_index (numbers_in order numbers) i) mine (number_at i high)
+      (subst (λ k. number < slice_index (numbers_in order numbers) k) same (between.after (omega arith))))
+  after i low high true e =
+      let l = ltb-true at i e in
+      let m = many_numbers in
+      let r = many in
+      flip client (at_place i).client Less
+      (client_total.trans client (at_place at).client (at_place i).client
+      (below_by_number client (at_place at).client number (slice_index (numbers_in order numbers) at) mine (number_at at (omega arith)) (between.after (omega arith)))
+      (sorted.rising at i no_row l (omega arith)))
+
+  -- is at a gap of the clients
+  pub gap_here : IsGap rows client at
+  gap_here =
+      let m = many in
+      record {
+        within = (let w = between.within in let l = many_numbers in omega arith);
+        before = λ i d h.
+            subst (λ (r : Row). client_cmp r.client client ≡ Less)
+            (get_or_default rows i no_row d (let w = between.within in let l = many_numbers in omega arith))
+            (before i h (nat_lt (i + 1) at) refl);
+        after = λ i d low high.
+            subst (λ (r : Row). client_cmp r.client client ≡ Greater) (get_or_default rows i no_row d high)
+            (after i low (omega arith) (nat_lt at i) refl);
+      }
+
+-- ---- a slot that is found by its number
 
 -- two places of rising rows have two slots
-two_slots : (order : List ℕ) (slots : List Row) (i j : ℕ) (d : ℕ) → IsSorted order slots → i < j → j < length order
+two_slots : (order numbers : List ℕ) (slots : List Row) (i j d : ℕ) → IsSorted order numbers slots → i < j → j < length order
     → ¬ (slice_index_or order i d ≡ slice_index_or order j d)
-two_slots order slots i j d sorted low high same =
+two_slots order numbers slots i j d sorted low high same =
     let many = length-rows_in order slots in
-    let ai = rows_in-at order slots i d no_row (omega arith) in
-    let aj = rows_in-at order slots j d no_row high in
-    let one : slice_index_or (rows_in order slots) i no_row ≡ slice_index_or (rows_in order slots) j no_row =
-    ai ∙ ap (λ slot. slice_index_or slots slot no_row) same ∙ sym aj in
-    not_less_itself (slice_index_or (rows_in order slots) i no_row).client (slice_index_or (rows_in order slots) j no_row).client
-    (sorted.rising i j no_row low (omega arith)) (ap (λ r. r.client) one)
+    let a = slice_index_or (rows_in order slots) i no_row in
+    let b = slice_index_or (rows_in order slots) j no_row in
+    let one : a ≡ b =
+    rows_in-at order slots i d no_row (omega arith) ∙ ap (λ slot. slice_index_or slots slot no_row) same ∙ sym (rows_in-at order slots j d no_row high) in
+    let less = sorted.rising i j no_row low (omega arith) in
+    let level = subst (λ (r : Row). client_cmp a.client r.client ≡ Equal) one (client_cmp-self a.client) in
+    cc
 
-module _ (order : List ℕ) (slots : List Row) (row : Row) (at : ℕ) (slot : ℕ) (sorted : IsSorted order slots) (place : at < length order)
-    (is : slice_index_or order at slot ≡ slot) where
-  slot_within : slot < length slots
+module _ (order numbers : List ℕ) (slots : List Row) (client : ClientId) (number slot : ℕ) (sorted : IsSorted order numbers slots) (mine : IsNumberOf client number)
+    (found : IsSlotOf order numbers number slot) where
+  abbrev at : ℕ
+  at = found.0.0
+
+  place : at < length order
+  place = found.0.1
+
+  is : slice_index_or order at slot ≡ slot
+  is = found.0.2
+
+  pub slot_within : slot < length slots
   slot_within = subst (λ s. s < length slots) is (sorted.within at slot place)
 
-  many : length (rows_in order slots) ≡ length order
-  many = length-rows_in order slots
+  own : IsNumberOf client (slice_index numbers slot)
+  own = subst (IsNumberOf client) (sym found.1) mine
+
+  client_is : (slice_index_or slots slot no_row).client ≡ client
+  client_is = same_by_number (slice_index_or slots slot no_row).client client (slice_index numbers slot) (sorted.clients slot slot_within) own
+
+  there : slice_get (rows_in order slots) at ≡ Some (slice_index_or slots slot no_row)
+  there =
+      slice_get-get_or (rows_in order slots) at no_row (let l = length-rows_in order slots in let p = place in omega arith)
+      ∙ ap Some (rows_in-at order slots at slot no_row place ∙ ap (λ s. slice_index_or slots s no_row) is)
+
+  -- has its client's row
+  pub found_row : row_of (rows_in order slots) client ≡ Some (slice_index_or slots slot no_row)
+  found_row =
+      subst (λ c. row_of (rows_in order slots) c ≡ Some (slice_index_or slots slot no_row)) client_is
+      (row_of-at (rows_in order slots) at (slice_index_or slots slot no_row) sorted.rising there)
+
+  here : IsRowAt (rows_in order slots) client at
+  here = subst (λ found. IsSomeAnd found (λ row. row.client ≡ client)) (sym there) client_is
 
   other_slot : (k : ℕ) → k < length order → k ≢ at → slice_index_or order k slot ≢ slot
   other_slot k h away same =
       elim (nat_lt k at) as (λ t. nat_lt k at ≡ t → ⊥) [
-        | true ↦ λ e. two_slots order slots k at slot sorted (ltb-true k at e) place (same ∙ sym is)
-        | false ↦ λ e. two_slots order slots at k slot sorted (let l = ltb-false k at e in omega arith) h (is ∙ sym same)
+        | true ↦ λ e. two_slots order numbers slots k at slot sorted (ltb-true k at e) place (same ∙ sym is)
+        | false ↦ λ e. two_slots order numbers slots at k slot sorted (let l = ltb-false k at e in omega arith) h (is ∙ sym same)
       ] refl
 
-  -- a row that is written in the slot of a place stands at that place
-  pub rows_in-set : rows_in order (slice_set slots slot row) ≡ slice_set (rows_in order slots) at row
-  rows_in-set =
+  -- a row that is written in the slot stands at its place
+  rows_in-set : (row : Row) → rows_in order (slice_set slots slot row) ≡ slice_set (rows_in order slots) at row
+  rows_in-set row =
       same_lists (rows_in order (slice_set slots slot row)) (slice_set (rows_in order slots) at row)
-      (length-rows_in order (slice_set slots slot row) ∙ sym many ∙ sym (length-set (rows_in order slots) at row))
+      (length-rows_in order (slice_set slots slot row) ∙ sym (length-rows_in order slots) ∙ sym (length-set (rows_in order slots) at row))
       (λ k d h. by_place k d (subst (λ n. k < n) (length-rows_in order (slice_set slots slot row)) h) (nat_eq k at) refl)
     where
       by_place : (k : ℕ) (d : Row) → k < length order → (t : Bool) → nat_eq k at ≡ t
           → slice_index_or (rows_in order (slice_set slots slot row)) k d ≡ slice_index_or (slice_set (rows_in order slots) at row) k d
       by_place k d h true e =
           let same : k ≡ at = eqb-true k at e in
+          let p = place in
           subst (λ j. slice_index_or (rows_in order (slice_set slots slot row)) j d ≡ slice_index_or (slice_set (rows_in order slots) at row) j d) (sym same)
           (rows_in-at order (slice_set slots slot row) at slot d place
           ∙ ap (λ s. slice_index_or (slice_set slots slot row) s no_row) is
           ∙ get_or-set_same slots slot row no_row slot_within
-          ∙ sym (get_or-set_same (rows_in order slots) at row d (omega (arith, many))))
+          ∙ sym (get_or-set_same (rows_in order slots) at row d (let l = length-rows_in order slots in omega arith)))
       by_place k d h false e =
           let away : k ≢ at = eqb-false k at e in
           rows_in-at order (slice_set slots slot row) k slot d h
@@ -133,79 +189,115 @@ module _ (order : List ℕ) (slots : List Row) (row : Row) (at : ℕ) (slot : �
           ∙ sym (rows_in-at order slots k slot d h)
           ∙ sym (get_or-set_other (rows_in order slots) at k row d away)
 
-  -- and the rows go on rising where the row is of the same client
-  pub put_row-set : IsRowAt (rows_in order slots) row.client at → put_row (rows_in order slots) row ≡ rows_in order (slice_set slots slot row)
-  put_row-set here = put_row-at (rows_in order slots) at row sorted.rising here ∙ sym rows_in-set
+  numbers_after : (row : Row) → row.client ≡ client → (k : ℕ) → k < length slots → (t : Bool) → nat_eq k slot ≡ t
+      → IsNumberOf (slice_index_or (slice_set slots slot row) k no_row).client (slice_index numbers k)
+  numbers_after row same k h true e =
+      let is_slot : slot ≡ k = sym (eqb-true k slot e) in
+      subst (λ j. IsNumberOf (slice_index_or (slice_set slots slot row) j no_row).client (slice_index numbers j)) is_slot
+      (subst (λ (r : Row). IsNumberOf r.client (slice_index numbers slot)) (sym (get_or-set_same slots slot row no_row slot_within))
+      (subst (λ c. IsNumberOf c (slice_index numbers slot)) (sym same) own))
+  numbers_after row same k h false e =
+      subst (λ (r : Row). IsNumberOf r.client (slice_index numbers k)) (sym (get_or-set_other slots slot k row no_row (eqb-false k slot e))) (sorted.clients k h)
 
-  pub IsSorted-set : IsRowAt (rows_in order slots) row.client at → IsSorted order (slice_set slots slot row)
-  IsSorted-set here =
-      let same = length-set slots slot row in
+  -- and takes the place of its client's row
+  pub writes : (row : Row) → row.client ≡ client
+      → IsSorted order numbers (slice_set slots slot row) × (rows_in order (slice_set slots slot row) ≡ put_row (rows_in order slots) row)
+  writes row same =
+      let long = length-set slots slot row in
+      let put : put_row (rows_in order slots) row ≡ rows_in order (slice_set slots slot row) =
+      put_row-at (rows_in order slots) at row sorted.rising (subst (λ c. IsRowAt (rows_in order slots) c at) (sym same) here) ∙ sym (rows_in-set row) in (
+        record {
+          listed = sorted.listed ∙ sym long;
+          within = λ k d h. let w = sorted.within k d h in omega arith;
+          few = sorted.few;
+          rising = subst IsRising put (IsRising-put (rows_in order slots) row sorted.rising);
+          numbered = sorted.numbered ∙ sym long;
+          clients = λ k h. numbers_after row same k (omega arith) (nat_eq k slot) refl;
+        },
+        sym put,
+      )
+
+  -- so is a change of the row in its slot
+  pub changes : (last : ℕ) (change : Change) (old new : Row) → old ≡ slice_index_or slots slot old
+      → new ≡ record old { last = last; kept = kept_after change old.kept }
+      → IsSorted order numbers (slice_set slots slot new)
+      × (rows_in order (slice_set slots slot new) ≡ put_row (rows_in order slots) (changed_row (rows_in order slots) client last change))
+  changes last change old new old_is new_is =
+      let stood : old ≡ slice_index_or slots slot no_row = old_is ∙ get_or_default slots slot old no_row slot_within in
+      let same : new ≡ changed_row (rows_in order slots) client last change =
+      new_is ∙ (λ i. record { client = (ap (λ (r : Row). r.client) stood ∙ client_is) i; last = last; kept = kept_after change (ap kept_in (ap Some stood ∙ sym found_row) i) }) in
+      let done = writes new (ap (λ (r : Row). r.client) same) in
+      (done.0, done.1 ∙ ap (put_row (rows_in order slots)) same)
+
+-- ---- a row more
+
+-- a slot more leaves those that are listed
+rows_in-more : (order : List ℕ) (slots : List Row) (row : Row) → All (λ slot. slot < length slots) order → rows_in order (slots ++ row ∷ []) ≡ rows_in order slots
+rows_in-more order slots row within =
+    same_lists (rows_in order (slots ++ row ∷ [])) (rows_in order slots) (length-rows_in order (slots ++ row ∷ []) ∙ sym (length-rows_in order slots))
+    (λ k d h.
+    let low : k < length order = (let l = length-rows_in order (slots ++ row ∷ []) in omega arith) in
+    rows_in-at order (slots ++ row ∷ []) k 0 d low
+    ∙ get_or_append_left slots (row ∷ []) no_row (slice_index order k) (within k 0 low)
+    ∙ sym (rows_in-at order slots k 0 d low))
+
+module _ (order numbers : List ℕ) (slots : List Row) (row : Row) (number at : ℕ) (sorted : IsSorted order numbers slots) (mine : IsNumberOf row.client number) where
+  -- a new slot that is listed at a place adds its row there
+  rows_in-insert : rows_in (insert order at (length slots)) (slots ++ row ∷ []) ≡ insert (rows_in order slots) at row
+  rows_in-insert =
+      map-insert (λ slot. slice_index_or (slots ++ row ∷ []) slot no_row) order at (length slots)
+      ∙ (λ i. insert (rows_in-more order slots row sorted.within i) at (get_or_at slots row [] no_row (length slots) refl i))
+
+  numbers_more : (k : ℕ) → k < length slots + 1 → (t : Bool) → nat_lt k (length slots) ≡ t
+      → IsNumberOf (slice_index_or (slots ++ row ∷ []) k no_row).client (slice_index (numbers ++ number ∷ []) k)
+  numbers_more k h true e =
+      let l = ltb-true k (length slots) e in
+      let many = sorted.numbered in
+      subst (IsNumberOf (slice_index_or (slots ++ row ∷ []) k no_row).client) (sym (get_or_append_left numbers (number ∷ []) 0 k (omega arith)))
+      (subst (λ (r : Row). IsNumberOf r.client (slice_index numbers k)) (sym (get_or_append_left slots (row ∷ []) no_row k l)) (sorted.clients k l))
+  numbers_more k h false e =
+      let last : length slots ≡ k = (let l = ltb-false k (length slots) e in omega arith) in
+      subst (IsNumberOf (slice_index_or (slots ++ row ∷ []) k no_row).client) (sym (get_or_at numbers number [] 0 k (sorted.numbered ∙ last)))
+      (subst (λ (r : Row). IsNumberOf r.client number) (sym (get_or_at slots row [] no_row k last)) mine)
+
+  gap : IsBetween (numbers_in order numbers) number at → IsGap (rows_in order slots) row.client at
+  gap between = gap_here order numbers slots row.client number at sorted mine between
+
+  room_at_gap : IsGap (rows_in order slots) row.client at → (length (rows_in order slots) < MOST_ROWS) ⊎ IsSome (row_of (rows_in order slots) row.client) → length order < MOST_ROWS
+  room_at_gap gap (inl h) = let l = length-rows_in order slots in omega arith
+  room_at_gap gap (inr h) = absurd (let t = subst IsSome (row_of-gap (rows_in order slots) row.client at gap) h in cc)
+
+  is_sorted : IsGap (rows_in order slots) row.client at → length order < MOST_ROWS
+      → IsSorted (insert order at (length slots)) (numbers ++ number ∷ []) (slots ++ row ∷ [])
+  is_sorted gap room =
+      let fits : at ≤ length order = (let w = gap.within in let l = length-rows_in order slots in omega arith) in
+      let longer = length-insert order at (length slots) fits in
+      let more = length-append slots (row ∷ []) in
+      let more_numbers = length-append numbers (number ∷ []) in
+      let listed = sorted.listed in
+      let numbered = sorted.numbered in
       record {
-        listed = sorted.listed ∙ sym same;
-        within = λ k d h. let w = sorted.within k d h in omega arith;
-        few = sorted.few;
-        rising = subst IsRising (put_row-set here) (IsRising-put (rows_in order slots) row sorted.rising);
+        listed = omega arith;
+        within = All-insert (λ slot. slot < length (slots ++ row ∷ [])) order at (length slots) (λ k d h. let w = sorted.within k d h in omega arith) (omega arith);
+        few = omega arith;
+        rising = subst IsRising (put_row-gap (rows_in order slots) row at gap ∙ sym rows_in-insert) (IsRising-put (rows_in order slots) row sorted.rising);
+        numbered = omega arith;
+        clients = λ k h. numbers_more k (omega arith) (nat_lt k (length slots)) refl;
       }
 
--- the same of lists that are so made: a row is added at a gap
-pub adds : (order order' : List ℕ) (slots slots' : List Row) (rows : List Row) (row : Row) (at slot : ℕ) → IsSorted order slots → rows_in order slots ≡ rows
-    → IsGap rows row.client at → length rows < MOST_ROWS → slot ≡ length slots → order' ≡ insert order at slot → slots' ≡ slots ++ row ∷ []
-    → IsSorted order' slots' × (rows_in order' slots' ≡ insert rows at row)
-adds order order' slots slots' rows row at slot sorted view gap room n o s =
-    let gap_in : IsGap (rows_in order slots) row.client at = subst (λ r. IsGap r row.client at) (sym view) gap in
-    let many = ap length view in
-    let few : length order < MOST_ROWS = omega (arith, length-rows_in order slots) in
-    let listed : order' ≡ insert order at (length slots) = o ∙ ap (insert order at) n in
-    subst (λ l. IsSorted l slots' × (rows_in l slots' ≡ insert rows at row)) (sym listed)
-    (subst (λ l. IsSorted (insert order at (length slots)) l × (rows_in (insert order at (length slots)) l ≡ insert rows at row)) (sym s)
-    (IsSorted-insert order slots row at sorted gap_in few, rows_in-insert order slots row at sorted.within ∙ ap (λ r. insert r at row) view))
-
-place_below : (rows : List Row) (client : ClientId) (at : ℕ) → IsRowAt rows client at → at < length rows
-place_below rows client at h = by (slice_get rows at) refl h
-  where
-    by : (found : Option Row) → slice_get rows at ≡ found → IsSomeAnd found (λ row. row.client ≡ client) → at < length rows
-    by None e h = absurd h
-    by (Some row) e h = slice_get-below rows at row e
-
--- and a row is written in the slot of its client's place
-pub writes : (order : List ℕ) (slots rows : List Row) (row : Row) (at slot : ℕ) → IsSorted order slots → rows_in order slots ≡ rows
-    → IsRowAt rows row.client at → slice_index_or order at slot ≡ slot
-    → IsSorted order (slice_set slots slot row) × (rows_in order (slice_set slots slot row) ≡ put_row rows row)
-writes order slots rows row at slot sorted view here is =
-    let here_in : IsRowAt (rows_in order slots) row.client at = subst (λ r. IsRowAt r row.client at) (sym view) here in
-    let low = place_below (rows_in order slots) row.client at here_in in
-    let place : at < length order = omega (arith, length-rows_in order slots) in
-    (IsSorted-set order slots row at slot sorted place is here_in, sym (put_row-set order slots row at slot sorted place is here_in) ∙ ap (λ r. put_row r row) view)
-
-slice_get-index : (rows : List Row) (at : ℕ) (d : Row) → at < length rows → slice_get rows at ≡ Some (slice_index_or rows at d)
-slice_get-index [] at d h = absurd (omega arith)
-slice_get-index (r ∷ rows) zero d h = refl
-slice_get-index (r ∷ rows) (suc at) d h = slice_get-index rows at d (omega arith)
-
--- or the row of the place is changed in its slot
-pub changes : (order : List ℕ) (slots rows : List Row) (client : ClientId) (last : ℕ) (change : Change) (at slot : ℕ) (old new : Row) → IsSorted order slots
-    → rows_in order slots ≡ rows → IsRowAt rows client at → slice_index_or order at slot ≡ slot → old ≡ slice_index_or slots slot old
-    → new ≡ record old { last = last; kept = kept_after change old.kept }
-    → IsSorted order (slice_set slots slot new)
-    × (rows_in order (slice_set slots slot new) ≡ put_row rows (record { client = client; last = last; kept = kept_after change (kept_in (row_of rows client)) }))
-changes order slots rows client last change at slot old new sorted view here is old_is new_is =
-    let low : at < length rows = place_below rows client at here in
-    let many = ap length view in
-    let place : at < length order = omega (arith, length-rows_in order slots) in
-    let slot_is : slot < length slots = subst (λ s. s < length slots) is (sorted.within at slot place) in
-    let at_rows : slice_index_or rows at old ≡ old =
-    sym (ap (λ r. slice_index_or r at old) view) ∙ rows_in-at order slots at slot old place ∙ ap (λ s. slice_index_or slots s no_row) is
-    ∙ get_or_default slots slot no_row old slot_is ∙ sym old_is in
-    let found : slice_get rows at ≡ Some old = slice_get-index rows at old low ∙ ap Some at_rows in
-    let mine : old.client ≡ client = subst (λ o. IsSomeAnd o (λ row. row.client ≡ client)) found here in
-    let rising : IsRising rows = subst IsRising view sorted.rising in
-    let row_is : row_of rows client ≡ Some old = subst (λ k. row_of rows k ≡ Some old) mine (row_of-at rows at old rising found) in
-    let same : new ≡ record { client = client; last = last; kept = kept_after change (kept_in (row_of rows client)) } =
-    new_is ∙ (λ i. record { client = mine i; last = last; kept = kept_after change (kept_in (sym row_is i)) }) in
-    let done = writes order slots rows new at slot sorted view (subst (λ k. IsRowAt rows k at) (sym (ap (λ r. r.client) same)) here) is in
-    (done.0, done.1 ∙ ap (put_row rows) same)
-
--- a gap is in a store that has room
-pub room_at_gap : (rows : List Row) (client : ClientId) (at : ℕ) → IsGap rows client at → (length rows < MOST_ROWS) ⊎ IsSome (row_of rows client) → length rows < MOST_ROWS
-room_at_gap rows client at gap (inl h) = h
-room_at_gap rows client at gap (inr h) = absurd (let t = subst IsSome (row_of-gap rows client at gap) h in cc)
+  -- the row of a gap is added with its slot and its number
+  pub adds : (order' numbers' : List ℕ) (slots' : List Row) (slot : ℕ) → IsBetween (numbers_in order numbers) number at
+      → (length (rows_in order slots) < MOST_ROWS) ⊎ IsSome (row_of (rows_in order slots) row.client)
+      → slot ≡ length slots → order' ≡ insert order at slot → numbers' ≡ numbers ++ number ∷ [] → slots' ≡ slots ++ row ∷ []
+      → IsSorted order' numbers' slots' × (rows_in order' slots' ≡ put_row (rows_in order slots) row)
+  adds order' numbers' slots' slot between free is order_is numbers_is slots_is =
+      let here = gap between in
+      let done : IsSorted (insert order at (length slots)) (numbers ++ number ∷ []) (slots ++ row ∷ [])
+      × (rows_in (insert order at (length slots)) (slots ++ row ∷ []) ≡ put_row (rows_in order slots) row) =
+      (is_sorted here (room_at_gap here free), rows_in-insert ∙ sym (put_row-gap (rows_in order slots) row at here)) in
+      let at_slot : insert order at (length slots) ≡ order' = ap (insert order at) (sym is) ∙ sym order_is in (
+        subst (λ o. IsSorted o numbers' slots') at_slot
+            (subst (λ n. IsSorted (insert order at (length slots)) n slots') (sym numbers_is)
+            (subst (IsSorted (insert order at (length slots)) (numbers ++ number ∷ [])) (sym slots_is) done.0)),
+        (λ i. rows_in (sym at_slot i) (slots_is i)) ∙ done.1,
+      )

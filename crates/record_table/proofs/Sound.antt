@@ -23,9 +23,8 @@ use Rattle.record_table.specs.Changes.{kept_after, IsOutcome}
 use Rattle.record_table.specs.Rules.{act, after_guess, after_wrong_guess}
 use Rattle.svr_base.specs.Sizes.{IsValid}
 use Rattle.record_table.specs.Valid.{IsValidRecord, IsValidRow, IsSound}
-use Rattle.record_table.specs.Placed.{IsRowAt}
 use Rattle.record_table.proofs.Rows.{row_of-client}
-use Rattle.record_table.proofs.Placed.{put_row-at, IsRising-put}
+use Rattle.record_table.proofs.Placed.{IsRowAt, put_row-at, IsRising-put}
 
 abbrev IsValidKept : Option Kept → Type 0
 IsValidKept kept = IfSome kept IsValidRecord
@@ -108,24 +107,26 @@ length_put_known rows row old rising e =
     let here : IsRowAt rows row.client f.place = subst (λ o. IsSomeAnd o (λ r. r.client ≡ row.client)) (sym f.there) (row_of-client rows row.client old e) in
     ap length (put_row-at rows f.place row rising here) ∙ length-set rows f.place row
 
+-- a row that is put where its client is known or there is room fits
+pub fits_put : (rows : List Row) (row : Row) (limit : ℕ) → IsRising rows → length rows ≤ limit → IsSome (row_of rows row.client) ⊎ (length rows < limit)
+    → length (put_row rows row) ≤ limit
+fits_put rows row limit rising few (inr h) = let longer = length_put rows row in omega arith
+fits_put rows row limit rising few (inl h) = known (row_of rows row.client) refl h
+  where
+    known : (o : Option Row) → row_of rows row.client ≡ o → IsSome o → length (put_row rows row) ≤ limit
+    known None e h = absurd (cc)
+    known (Some old) e h = let same = length_put_known rows row old rising e in omega arith
+
 -- a valid row is put where its client is known or there is room
 pub sound_put : (table : RecordTable) (row : Row) → IsSound table → IsValidRow row → IsSome (row_of table.rows row.client) ⊎ (length table.rows < table.limit)
     → IsSound (with_row table row)
 sound_put table row sound valid room = record {
   limit_least = sound.limit_least;
   limit_most = sound.limit_most;
-  few = fits room;
+  few = fits_put table.rows row table.limit sound.rising sound.few room;
   rising = IsRising-put table.rows row sound.rising;
   valid = valid_put table.rows row sound.valid valid;
 }
-  where
-    known : (o : Option Row) → row_of table.rows row.client ≡ o → IsSome o → length (put_row table.rows row) ≤ table.limit
-    known None e h = absurd (cc)
-    known (Some old) e h = let same = length_put_known table.rows row old sound.rising e in let few = sound.few in omega arith
-
-    fits : IsSome (row_of table.rows row.client) ⊎ (length table.rows < table.limit) → length (put_row table.rows row) ≤ table.limit
-    fits (inl h) = known (row_of table.rows row.client) refl h
-    fits (inr h) = let longer = length_put table.rows row in omega arith
 
 -- the row of a client that is known, after a valid request has acted
 pub sound_act : (table : RecordTable) (client : ClientId) (number : ℕ) (request : Request) (kept : Option Kept) (row : Row) → IsSound table → IsValid request

@@ -7,6 +7,8 @@ use Rattle.std.specs.Ordering.{MatchOrdering, ordering_then, nat_cmp}
 use Rattle.std.specs.Cmp.{nat_cmp_is, ranks}
 use Rattle.std.specs.Cmp.Lexicographic.{slice_cmp}
 use Rattle.std.specs.Int.{w128, byte_worth, sum_through, from_be_bytes}
+use Rattle.svr_base.specs.declared.ids.ClientId.{ClientId}
+use Rattle.record_table.specs.Clients.{client_cmp, IsNumberOf}
 use Rattle.std.proofs.Math.Nat.{mul-le-mul_right}
 
 -- the number that the bytes spell, the first worth most
@@ -90,9 +92,8 @@ number_is : (vs : List ℕ) → length vs ≡ 16 → from_be_bytes w128 vs ≡ s
 number_is [] e = absurd (omega arith)
 number_is (b ∷ vs) e = as_number b vs 15 (omega arith)
 
--- sixteen bytes are in the order of their numbers
-pub number_order : (us vs : List ℕ) → length us ≡ 16 → length vs ≡ 16 → All (λ b. b < 256) us → All (λ b. b < 256) vs
-    → nat_cmp (from_be_bytes w128 us) (from_be_bytes w128 vs) ≡ slice_cmp nat_cmp us vs
-number_order us vs la lb fa fb =
-    (λ i. nat_cmp (number_is us la i) (number_is vs lb i))
-    ∙ sym (nat_cmp_is (spelled us) (spelled vs) (slice_cmp nat_cmp us vs) (ordered us vs (la ∙ sym lb) fa fb))
+-- clients are in the order of their numbers
+pub client_cmp-numbers : (a b : ClientId) (m n : ℕ) → IsNumberOf a m → IsNumberOf b n → client_cmp a b ≡ nat_cmp m n
+client_cmp-numbers a b m n is_a is_b =
+    nat_cmp_is (spelled a.0) (spelled b.0) (client_cmp a b) (ordered a.0 b.0 (is_a.sixteen ∙ sym is_b.sixteen) is_a.bytes is_b.bytes)
+    ∙ (λ i. nat_cmp (sym (is_a.spelled ∙ number_is a.0 is_a.sixteen) i) (sym (is_b.spelled ∙ number_is b.0 is_b.sixteen) i))

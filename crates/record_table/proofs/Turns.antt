@@ -1,6 +1,6 @@
 -- What one place does to the row of one client.
-use Rattle.std.proofs.Common.{◌≡◌, ℕ, zero, suc, ◌<◌, Bool, true, false, cond, List, [], ◌∷◌, take, refl, sym, ap, subst}
-use Rattle.std.specs.Prelude.{Option, Some, None, option_map, IsSomeAnd, fold, nat_le, ◌==◌, length}
+use Rattle.std.proofs.Common.{◌≡◌, ℕ, zero, suc, ◌<◌, Bool, true, false, cond, List, [], ◌∷◌, take, refl, sym, ap, subst, ◌⊎◌, inl, inr}
+use Rattle.std.specs.Prelude.{Option, Some, None, option_map, IsSome, is_some, IsSomeAnd, fold, nat_le, ◌==◌, length}
 use Rattle.std.proofs.lemmas.Bool.{leb-false}
 use Rattle.svr_base.specs.declared.entry.Hash.{Hash}
 use Rattle.svr_base.specs.declared.ids.ClientId.{ClientId}
@@ -15,6 +15,7 @@ use Rattle.record_table.specs.Clients.{client_eq}
 use Rattle.record_table.specs.Table.{RecordTable, row_of, put_row, kept_in}
 use Rattle.record_table.specs.Rules.{act, after_acting, apply, apply_by}
 use Rattle.record_table.specs.Places.{ClientAsk, Places, apply_place, fold_places, ask_at, reply_at, is_ask_of, IsApplied}
+use Rattle.record_table.specs.Laws.{row_after, IsBackup}
 use Rattle.record_table.proofs.Clients.{client_eq-true}
 use Rattle.record_table.proofs.Rows.{row_of-put_same, row_of-put_other}
 
@@ -30,7 +31,7 @@ pub data Turn (client : ClientId) (before after : Option Row) (place : Option Cl
       → before ≡ None → after ≡ None → reply ≡ Some (Applied (act request None).1) → Turn client before after place reply
   -- the ask acts by the record rules
   acts : (number : ℕ) (request : Request) → place ≡ Some (record { client = client; number = number; request = request })
-      → ((row : Row) → before ≡ Some row → row.last < number)
+      → IsSome before ⊎ IsBackup request → ((row : Row) → before ≡ Some row → row.last < number)
       → after ≡ Some (record { client = client; last = number; kept = (act request (kept_in before)).0 })
       → reply ≡ Some (Applied (act request (kept_in before)).1) → Turn client before after place reply
 
@@ -54,10 +55,10 @@ module _ (table : RecordTable) (client : ClientId) (number : ℕ) (request : Req
   Turns after =
       Turn client (row_of table.rows client) (row_of after.0.rows client) (Some (record { client = client; number = number; request = request })) (Some after.1)
 
-  turns_acted : (kept : Option Kept) → kept_in (row_of table.rows client) ≡ kept
+  turns_acted : (kept : Option Kept) → kept_in (row_of table.rows client) ≡ kept → IsSome (row_of table.rows client) ⊎ IsBackup request
       → ((row : Row) → row_of table.rows client ≡ Some row → row.last < number) → Turns (after_acting table client number (act request kept))
-  turns_acted kept e above =
-      acts number request refl above
+  turns_acted kept e puts above =
+      acts number request refl puts above
       (subst (λ k. row_of (put_row table.rows (record { client = client; last = number; kept = (act request kept).0 })) client
       ≡ Some (record { client = client; last = number; kept = (act request k).0 })) (sym e)
       (row_of-put_same table.rows (record { client = client; last = number; kept = (act request kept).0 })))
@@ -67,12 +68,12 @@ module _ (table : RecordTable) (client : ClientId) (number : ℕ) (request : Req
       → Turns (cond b (table, Stale row.last) (after_acting table client number (act request row.kept)))
   turns_known row true test e = refused refl (λ h. h)
   turns_known row false test e =
-      turns_acted row.kept (ap kept_in e) (λ s f. let same : s ≡ row = cc in subst (λ r. r.last < number) (sym same) (leb-false number row.last test))
+      turns_acted row.kept (ap kept_in e) (inl (ap is_some e)) (λ s f. let same : s ≡ row = cc in subst (λ r. r.last < number) (sym same) (leb-false number row.last test))
 
-  turns_backup : (b : Bool) → row_of table.rows client ≡ None
+  turns_backup : (b : Bool) → IsBackup request → row_of table.rows client ≡ None
       → Turns (cond b (table, TableFull table.limit) (after_acting table client number (act request None)))
-  turns_backup true e = refused refl (λ h. h)
-  turns_backup false e = turns_acted None (ap kept_in e) (λ s f. cc)
+  turns_backup true backup e = refused refl (λ h. h)
+  turns_backup false backup e = turns_acted None (ap kept_in e) (inr backup) (λ s f. cc)
 
 leaves_by : (table : RecordTable) (client : ClientId) (number : ℕ) (request : Request) (found : Option Row)
     → Leaves table client number request (apply_by found table client number request)
@@ -87,7 +88,7 @@ leaves_by table client number (Expose secret) None = λ other e. refl
 turns_by : (table : RecordTable) (client : ClientId) (number : ℕ) (request : Request) (found : Option Row) → row_of table.rows client ≡ found
     → Turns table client number request (apply_by found table client number request)
 turns_by table client number request (Some row) e = turns_known table client number request row (nat_le number row.last) refl e
-turns_by table client number (Backup secret pin tries) None e = turns_backup table client number (Backup secret pin tries) (length table.rows == table.limit) e
+turns_by table client number (Backup secret pin tries) None e = turns_backup table client number (Backup secret pin tries) (length table.rows == table.limit) tt e
 turns_by table client number (Restore pin) None e = unknown number (Restore pin) refl (λ s p n h. cc) e e refl
 turns_by table client number Delete None e = unknown number Delete refl (λ s p n h. cc) e e refl
 turns_by table client number (Expose secret) None e = unknown number (Expose secret) refl (λ s p n h. cc) e e refl
@@ -117,10 +118,6 @@ grown table (place ∷ places) (suc k) = grown (apply_place table place) places 
 pub fold_more : (limit : ℕ) (places : Places) (k : ℕ)
     → fold_places limit (take (suc k) places) ≡ apply_place (fold_places limit (take k places)) (ask_at places (suc k))
 fold_more limit places k = grown (record { limit = limit; rows = [] }) places k
-
--- the client's row after the first k places
-abbrev pub row_after : ℕ → Places → ClientId → ℕ → Option Row
-row_after limit places client k = row_of (fold_places limit (take k places)).rows client
 
 pub turn_at : (limit : ℕ) (places : Places) (client : ClientId) (k : ℕ)
     → Turn client (row_after limit places client k) (row_after limit places client (suc k)) (ask_at places (suc k)) (reply_at limit places (suc k))

@@ -1,13 +1,16 @@
 -- What holds of every list of asks.
-use Rattle.std.specs.Prelude.{◌≡◌, ℕ, ◌-◌, ◌<◌, ◌≤◌, List, take, Option, Some, None, IsSome, IfSome, All}
+use Rattle.std.specs.Prelude.{◌≡◌, ℕ, suc, ◌-◌, ◌<◌, ◌≤◌, ◌⊎◌, ⊤, List, take, length, Option, Some, None, IsSome, IfSome, All}
 use Rattle.svr_base.specs.declared.entry.Hash.{Hash}
 use Rattle.svr_base.specs.declared.ids.ClientId.{ClientId}
+use Rattle.svr_base.specs.declared.row.Row.{Row}
 use Rattle.svr_base.specs.declared.row.Kept.{Kept}
+use Rattle.svr_base.specs.declared.message.Request.{Request}
 use Rattle.svr_base.specs.declared.message.Request.TheVariants.{Backup, Restore, Delete, Expose}
 use Rattle.svr_base.specs.declared.message.Response.TheVariants.{Restore as Restored, Expose as Exposed}
 use Rattle.svr_base.specs.declared.message.Reply.TheVariants.{Applied}
 use Rattle.record_table.specs.declared.status.TheConstants.{OK}
-use Rattle.record_table.specs.Table.{RecordTable, row_of, kept_in}
+use Rattle.record_table.specs.Table.{RecordTable, row_of, kept_in, IsRising}
+use Rattle.record_table.specs.Rules.{act}
 use Rattle.svr_base.specs.Sizes.{IsValid}
 use Rattle.record_table.specs.Places.{ClientAsk, Places, fold_places, ask_at, reply_at, Acts, ActsAs, wrong_guesses}
 
@@ -30,6 +33,41 @@ NoBackup limit places client i k =
 -- no delete of the client does
 abbrev pub NoDelete : ℕ → Places → ClientId → ℕ → ℕ → Type 0
 NoDelete limit places client i k = (j : ℕ) → i < j → j ≤ k → ¬ (ActsAs limit places j client Delete)
+
+-- the client's row after the first k places
+abbrev pub row_after : ℕ → Places → ClientId → ℕ → Option Row
+row_after limit places client k = row_of (fold_places limit (take k places)).rows client
+
+abbrev pub IsBackup : Request → Type 0
+IsBackup (Backup secret pin tries) = ⊤
+IsBackup (Restore pin) = ⊥
+IsBackup Delete = ⊥
+IsBackup (Expose secret) = ⊥
+
+-- the place after the first k holds an ask of the client for this that acts, and the client is known or it is a backup
+abbrev pub PutsRow : ℕ → Places → ClientId → ℕ → ℕ → Request → Type 0
+PutsRow limit places client k number request =
+    (ask_at places (suc k) ≡ Some (record { client = client; number = number; request = request }))
+    × Acts limit places (suc k) × (IsSome (row_after limit places client k) ⊎ IsBackup request)
+
+-- rows: such a place gives the client's row its number, and does by the record rules with its record
+abbrev pub RowsArePut : ℕ → Places → Type 0
+RowsArePut limit places =
+    (client : ClientId) (k number : ℕ) (request : Request) → PutsRow limit places client k number request
+    → row_after limit places client (suc k)
+    ≡ Some (record { client = client; last = number; kept = (act request (kept_in (row_after limit places client k))).0 })
+
+-- and no other place changes the row
+abbrev pub RowsStay : ℕ → Places → Type 0
+RowsStay limit places =
+    (client : ClientId) (k : ℕ) → ((number : ℕ) (request : Request) → ¬ (PutsRow limit places client k number request))
+    → row_after limit places client (suc k) ≡ row_after limit places client k
+
+-- bounds: the table has this limit, no more rows than that, and they rise
+pub record IsBounded (limit : ℕ) (table : RecordTable) : Type 0 where
+  pub limit_is : table.limit ≡ limit
+  pub few : length table.rows ≤ limit
+  pub rising : IsRising table.rows
 
 -- numbers: of two places of a client that act, the client being known after the first, the later has the higher number
 abbrev pub NumbersRise : ℕ → Places → Type 0

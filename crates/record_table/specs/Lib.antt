@@ -5,5 +5,6 @@ pub mod Places
 pub mod Valid
 pub mod Laws
 pub mod Changes
-pub mod Placed
 pub mod Slots
+pub mod Pages
+pub mod Numbered

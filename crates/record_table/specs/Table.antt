@@ -1,5 +1,5 @@
 -- The record table as a value.
-use Rattle.std.specs.Prelude.{◌≡◌, ℕ, List, [], ◌∷◌, Bool, ◌&&◌, nat_lt, is_none, length, Option, Some, None, find, AllPairs}
+use Rattle.std.specs.Prelude.{◌≡◌, ℕ, List, [], ◌∷◌, Bool, ◌&&◌, nat_lt, is_none, if◌then◌else◌, length, Option, Some, None, find, AllPairs}
 use Rattle.std.specs.declared.cmp.Ordering.TheVariants.{Less}
 use Rattle.std.specs.Ordering.{match_ordering}
 use Rattle.svr_base.specs.declared.ids.ClientId.{ClientId}
@@ -41,3 +41,7 @@ can_add table row = is_none (row_of table.rows row.client) && nat_lt (length tab
 -- the table with the row added
 abbrev pub with_row : RecordTable → Row → RecordTable
 with_row table row = record table { rows = put_row table.rows row }
+
+-- the table with the row, unless its client is known or there is no room
+abbrev pub row_added : RecordTable → Row → RecordTable
+row_added table row = if can_add table row then with_row table row else table

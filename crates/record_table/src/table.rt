@@ -32,8 +32,8 @@ impl<T: RowStore> Model for TableOver<T> {
 }
 
 impl<T: RowStore> TableOver<T> {
-    ghost use Rattle.std.specs.Prelude.{◌≡◌, ◌≤◌, IsNone, length, take, drop, IfOk, OnOk, OnErr, option_copied, if◌then◌else◌};
-    ghost use Rattle.record_table.specs.Table.{empty_table, row_of, can_add, with_row};
+    ghost use Rattle.std.specs.Prelude.{◌≡◌, ◌≤◌, IsNone, length, take, drop, IfOk, OnOk, OnErr, option_copied};
+    ghost use Rattle.record_table.specs.Table.{empty_table, row_of, can_add, row_added};
     ghost use Rattle.svr_base.specs.Sizes.{IsValid};
     ghost use Rattle.record_table.specs.Valid.{IsValidRow, IsSound};
     ghost use Rattle.record_table.specs.Rules.{apply, ask_unknown};
@@ -149,7 +149,7 @@ impl<T: RowStore> TableOver<T> {
     pub fn add_row(&mut self, row: Row) -> Result<bool, Memory>
         requires { IsValidRow row }
         ensures answer { IfOk result (λ done. done ≡ can_add self.old row) }
-        ensures ok { OnOk result (self.new ≡ (if can_add self.old row then with_row self.old row else self.old)) }
+        ensures ok { OnOk result (self.new ≡ row_added self.old row) }
         ensures err { OnErr result (self.new ≡ self.old) }
     {
         if self.rows.count() >= self.limit || self.rows.find(&row.client).is_some() {

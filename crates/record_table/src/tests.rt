@@ -14,10 +14,8 @@ use svr_base::{Bytes, ClientId, Hash, Kept, Memory, Reply, Request, Response, Ro
 
 const PIN: Hash = Hash([0x11; 32]);
 
-fn client(n: u8) -> ClientId {
-    let mut bytes = [0; 16];
-    bytes[15] = n;
-    ClientId(bytes)
+fn client(n: u16) -> ClientId {
+    ClientId(u128::from(n).to_be_bytes())
 }
 
 fn backup(alloc: Global) -> Result<Request, Memory>
@@ -30,7 +28,7 @@ fn backup(alloc: Global) -> Result<Request, Memory>
     })
 }
 
-fn row(alloc: Global, n: u8) -> Result<Row, Memory>
+fn row(alloc: Global, n: u16) -> Result<Row, Memory>
     ensures { IfOk result IsValidRow }
 {
     let secret = Bytes::from_slice(alloc, &[0xaa; 16])?;
@@ -114,6 +112,25 @@ fn rows_are_copied_in_the_order_of_clients(rt: HostRuntime) -> Result<(), Fail> 
         rows.as_slice(),
         [row(alloc, 2)?, row(alloc, 3)?].as_slice()
     );
+    Ok(())
+}
+
+#[test]
+fn a_table_takes_more_rows_than_a_page(rt: HostRuntime) -> Result<(), Fail> {
+    let alloc = rt.alloc();
+    let mut table = Table::new(alloc, 1000);
+    for n in 0..600u16 {
+        // every second client comes before all that are there
+        let client = if n % 2 == 0 { 1000 + n } else { 1000 - n };
+        assert!(rt; table.add_row(row(alloc, client)?)?);
+    }
+    assert_eq!(rt; table.count(), 600);
+    let rows = table.rows_from(299, 2)?;
+    assert_eq!(rt;
+        rows.as_slice(),
+        [row(alloc, 999)?, row(alloc, 1000)?].as_slice()
+    );
+    assert_eq!(rt; table.look(&client(1598)), Some(&row(alloc, 1598)?));
     Ok(())
 }
 

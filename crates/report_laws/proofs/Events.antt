@@ -187,7 +187,8 @@ module _ (c : ClientId) (link : Link) (w g : World) (k : WorldFollows c g) (same
 
   acts_goes : (e : Event) → (IsOnlySaid g c → ¬ (Names c e)) → WorldFollows c (group_after w (happening.acts (enclaves link) e g))
   acts_goes (event.Begin margin limit' voters) unnamed = k
-  acts_goes (event.Start x) unnamed = unless_goes c link w g k same (is_in g.started x) _ (happening.starts (enclaves link) x) (starts_goes c link w g k same x)
+  acts_goes (event.Start zero) unnamed = k
+  acts_goes (event.Start (suc x)) unnamed = unless_goes c link w g k same (is_in g.started (suc x)) _ (happening.starts (enclaves link) (suc x)) (starts_goes c link w g k same (suc x))
   acts_goes (event.Tick v) unnamed = tells_goes c link w g k same v Tick (λ only. tt)
   acts_goes (event.Deliver j) unnamed = delivers_goes j (numbered g.messages j)
   acts_goes (event.Lose j) unnamed = loses_goes c link w g k same j (numbered g.messages j)

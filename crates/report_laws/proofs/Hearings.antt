@@ -31,7 +31,7 @@ use Rattle.report_laws.proofs.Meanings.{IsStore, IsRecover, MeansSo, reply_means
 use Rattle.report_laws.proofs.Kept.{ListedAs, CallsSaid, FlightFits, FlightBegan, BackupHeard, HeardKept, HearingsKept, first_flight}
 use Rattle.report_laws.proofs.Events.{run_follows}
 use Rattle.report_laws.proofs.Placed.{ReadAgain, Placed, placed}
-use Rattle.report_laws.proofs.Stores.{stored_at}
+use Rattle.report_laws.proofs.Stores.{RowLaws, stored_at}
 
 same_report : (a b : Report) → Reports a ≡ Reports b → a ≡ b
 same_report a b e = cc
@@ -46,7 +46,7 @@ pin_in (Restore pin) other = pin
 pin_in Delete other = other
 pin_in (Expose secret) other = other
 
-module _ (again : ReadAgain) (w : World) (laws : OneLogLaws w) (c : ClientId) where
+module _ (again : ReadAgain) (rows : RowLaws) (w : World) (laws : OneLogLaws w) (c : ClientId) where
   -- a hearing of the client, of an answer to what it had in flight
   module _ (hs : List Hearing) (h : Hearing) (last : ℕ) (f : Flight) (flight_is : h.flight ≡ Some f) (mine : h.client ≡ c) (fits : FlightFits last (Some f)) (began : FlightBegan c (outcomes_of w) hs (Some f)) where
     place_of : (index : ℕ) (reply : Reply) → ListedAs (CallsSaid c last (Some f)) (outcomes_of w) c f.number (answer.Outcome index reply) → Placed again c last f fits.1 w c f.number index reply
@@ -69,7 +69,7 @@ module _ (again : ReadAgain) (w : World) (laws : OneLogLaws w) (c : ClientId) wh
           ∙ ap (λ (n : ℕ). Some (record { client = c; number = n; request = Expose secret })) b.next in
           let done = place.replied ∙ ap Some reply_is in
           let backup_acts = acts_at b.index (Applied (BackedUp OK)) first.replied tt in
-          let at = stored_at (limit_of w) (log_places w) laws.numbers c b.number secret pin tries b.index index backup backup_acts expose done in
+          let at = stored_at rows (limit_of w) (log_places w) laws.numbers c b.number secret pin tries b.index index backup backup_acts expose done in
           record {
             backup = b.index;
             expose = index;
@@ -139,5 +139,5 @@ module _ (again : ReadAgain) (w : World) (laws : OneLogLaws w) (c : ClientId) wh
   each [] k = tt
   each (h ∷ hs) k = (λ is. holds hs h is (k.0 is), each hs k.1)
 
-pub reports_of : ReadAgain → (link : Link) (events : List Event) (c : ClientId) → OneLogLaws (run link events) → IsOnlySaid (run link events) c → ReportsHold (run link events) c (run link events).hearings
-reports_of again link events c laws only = each again (run link events) laws c (run link events).hearings (run_follows c link events only).heard
+pub reports_of : ReadAgain → RowLaws → (link : Link) (events : List Event) (c : ClientId) → OneLogLaws (run link events) → IsOnlySaid (run link events) c → ReportsHold (run link events) c (run link events).hearings
+reports_of again rows link events c laws only = each again rows (run link events) laws c (run link events).hearings (run_follows c link events only).heard

@@ -1,7 +1,6 @@
 pub mod Meanings
 pub mod Kept
 pub mod Events
-pub mod Rows
 pub mod Stores
 pub mod Placed
 pub mod Hearings

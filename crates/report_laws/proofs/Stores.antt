@@ -18,10 +18,14 @@ use Rattle.record_table.specs.declared.status.TheConstants.{OK, ERROR}
 use Rattle.record_table.specs.Table.{kept_in}
 use Rattle.record_table.specs.Rules.{act, apply_by, apply}
 use Rattle.record_table.specs.Places.{ClientAsk, Places, fold_places, ask_at, reply_at, IsApplied, Acts}
-use Rattle.record_table.specs.Laws.{record_of, NumbersRise}
-use Rattle.report_laws.proofs.Rows.{row_after, acted_row, same_row}
+use Rattle.record_table.specs.Laws.{record_of, row_after, RowsArePut, RowsStay, NumbersRise}
 
-module _ (limit : ℕ) (places : Places) (rise : NumbersRise limit places) (client : ClientId) (n : ℕ) (secret : List ℕ) (pin : Hash) (tries : ℕ) where
+-- what becomes of a client's row, place by place
+pub record RowLaws : Type 0 where
+  pub put : (limit : ℕ) (places : Places) → RowsArePut limit places
+  pub stay : (limit : ℕ) (places : Places) → RowsStay limit places
+
+module _ (rows : RowLaws) (limit : ℕ) (places : Places) (rise : NumbersRise limit places) (client : ClientId) (n : ℕ) (secret : List ℕ) (pin : Hash) (tries : ℕ) where
   abbrev Asks : ℕ → ℕ → Request → Type 0
   Asks k number request = ask_at places k ≡ Some (record { client = client; number = number; request = request })
 
@@ -62,18 +66,18 @@ module _ (limit : ℕ) (places : Places) (rise : NumbersRise limit places) (clie
         | inr differ ↦ absurd (omega (
           arith,
           rise (suc e) (suc b) _ _ (omega arith) expose backup refl expose_acts backup_acts
-              (is_some (row_after limit places client (suc e)) _ (acted_row limit places client e (n + 1) (Expose secret) expose expose_acts (inl (found_row e expose done)))),
+              (is_some (row_after limit places client (suc e)) _ (rows.put limit places client e (n + 1) (Expose secret) (expose, expose_acts, inl (found_row e expose done)))),
         ))
       ]
     ]
 
     backed_row : row_after limit places client (suc b) ≡ Some backed
-    backed_row = acted_row limit places client b n (Backup secret pin tries) backup backup_acts (inr tt)
+    backed_row = rows.put limit places client b n (Backup secret pin tries) (backup, backup_acts, inr tt)
 
     -- no ask of the client acts between the two
     quiet : (k : ℕ) → suc b ≤ k → k < e → row_after limit places client k ≡ Some backed → (number : ℕ) (request : Request) → Asks (suc k) number request → ¬ (Acts limit places (suc k))
     quiet k after before stands number request is acts =
-        let known = is_some (row_after limit places client (suc k)) _ (acted_row limit places client k number request is acts (inl (is_some _ backed stands))) in
+        let known = is_some (row_after limit places client (suc k)) _ (rows.put limit places client k number request (is, acts, inl (is_some _ backed stands))) in
         let above : n < number = rise (suc b) (suc k) _ _ (omega arith) backup is refl backup_acts acts (is_some _ backed backed_row) in
         let below : number < n + 1 = rise (suc k) (suc e) _ _ (omega arith) is expose refl acts expose_acts known in
         omega (arith, above, below)
@@ -86,7 +90,7 @@ module _ (limit : ℕ) (places : Places) (rise : NumbersRise limit places) (clie
     stands (suc d) fits =
         let before = stands d (omega arith) in
         subst (λ k. row_after limit places client k ≡ Some backed) (one_more (suc b) d)
-        (same_row limit places client (suc b + d) backed before (quiet (suc b + d) (omega arith) (omega arith) before))
+        (rows.stay limit places client (suc b + d) (λ number request puts. quiet (suc b + d) (omega arith) (omega arith) before number request puts.0 puts.1) ∙ before)
       where
         one_more : (k d : ℕ) → suc (k + d) ≡ k + suc d
         one_more k d = omega arith
@@ -103,7 +107,7 @@ module _ (limit : ℕ) (places : Places) (rise : NumbersRise limit places) (clie
     -- the record stands with all its tries, and is exposed
     pub stored : record_of (fold_places limit (take (suc e) places)) client ≡ Some exposed
     stored =
-        ap kept_in (acted_row limit places client e (n + 1) (Expose secret) expose expose_acts (inl (is_some (row_after limit places client e) backed before_expose)))
+        ap kept_in (rows.put limit places client e (n + 1) (Expose secret) (expose, expose_acts, inl (is_some (row_after limit places client e) backed before_expose)))
         ∙ ap (λ (o : Option Row). (act (Expose secret) (kept_in o)).0) before_expose
         ∙ exposes
 
@@ -112,13 +116,13 @@ pub record StoredAt (limit : ℕ) (places : Places) (client : ClientId) (secret 
   pub in_order : b < e
   pub kept : record_of (fold_places limit (take e places)) client ≡ Some (record { secret = secret; pin = pin; left = tries; exposed = true })
 
-pub stored_at : (limit : ℕ) (places : Places) → NumbersRise limit places → (client : ClientId) (n : ℕ) (secret : List ℕ) (pin : Hash) (tries b e : ℕ)
+pub stored_at : RowLaws → (limit : ℕ) (places : Places) → NumbersRise limit places → (client : ClientId) (n : ℕ) (secret : List ℕ) (pin : Hash) (tries b e : ℕ)
     → ask_at places b ≡ Some (record { client = client; number = n; request = Backup secret pin tries }) → Acts limit places b
     → ask_at places e ≡ Some (record { client = client; number = n + 1; request = Expose secret }) → reply_at limit places e ≡ Some (Applied (Exposed OK))
     → StoredAt limit places client secret pin tries b e
-stored_at limit places rise client n secret pin tries zero e backup acts expose done = absurd acts
-stored_at limit places rise client n secret pin tries (suc b) zero backup acts expose done = absurd (none-some _ done)
-stored_at limit places rise client n secret pin tries (suc b) (suc e) backup acts expose done = record {
-  in_order = omega (arith, in_order limit places rise client n secret pin tries b e backup acts expose done);
-  kept = stored limit places rise client n secret pin tries b e backup acts expose done;
+stored_at rows limit places rise client n secret pin tries zero e backup acts expose done = absurd acts
+stored_at rows limit places rise client n secret pin tries (suc b) zero backup acts expose done = absurd (none-some _ done)
+stored_at rows limit places rise client n secret pin tries (suc b) (suc e) backup acts expose done = record {
+  in_order = omega (arith, in_order rows limit places rise client n secret pin tries b e backup acts expose done);
+  kept = stored rows limit places rise client n secret pin tries b e backup acts expose done;
 }

@@ -1,6 +1,3 @@
-mod Ascending
-mod Kept
-mod Filled
 mod Counts
 mod OfPath
 mod TrueParts

@@ -6,23 +6,23 @@ use Rattle.std.proofs.lemmas.List.{take_all}
 use Rattle.std.proofs.Math.Seq.{take-add}
 use Rattle.svr_base.specs.declared.row.Row.{Row}
 use Rattle.svr_base.specs.declared.peer.TablePart.{TablePart}
-use Rattle.record_table.specs.Table.{empty_table}
-use Rattle.replica_model.specs.Path.{Link, same_point}
+use Rattle.record_table.specs.Table.{empty_table, row_added}
+use Rattle.replica_model.specs.Path.{Link, Path, same_point}
 use Rattle.replica_model.specs.Folds.{fold_of}
 use Rattle.replica_model.specs.Replica.{Named, Taking}
 use Rattle.replica_model.specs.Tables.{rows_of, parts_of, rows_in_part, IsTruePart, point_taken, is_taken, taken_with}
 use Rattle.table_transfer.specs.declared.taking.TakePart.{TakePart}
 use Rattle.table_transfer.specs.declared.taking.TakePart.TheVariants.{Taken, Whole, Other}
-use Rattle.table_transfer.specs.TakenParts.{TakenParts, expected_point, expected_next, is_expected, begun_by, before_part, with_part, row_added, table_of, take_part}
+use Rattle.table_transfer.specs.TakenParts.{TakenParts, expected_point, expected_next, is_expected, begun_by, before_part, with_part, table_of, take_part}
 use Rattle.table_transfer.specs.Taken.{TakesPartsOf, GoesOn, TakesAs}
-use Rattle.table_transfer.proofs.Filled.{filled}
 use Rattle.table_transfer.proofs.Counts.{rows_fit}
 
 -- what is taken on goes on with the parts before it
 abbrev joined : TablePart → TakenParts → TakenParts
 joined part before = record { point = before.point; next = part.part + 1; limit = before.limit; rows = before.rows ++ part.rows }
 
-module _ (link : Link) (t : Taking) (names : Named) (part : TablePart) (is_true : IsTruePart link part names) where
+module _ (again : (limit : ℕ) (path : Path) → fold row_added (empty_table limit) (fold_of limit path).rows ≡ fold_of limit path)
+    (link : Link) (t : Taking) (names : Named) (part : TablePart) (is_true : IsTruePart link part names) where
   rows_are : part.rows ≡ rows_in_part (rows_of names) part.part
   rows_are = ap (λ q. q.rows) is_true.is_part
 
@@ -109,7 +109,7 @@ module _ (link : Link) (t : Taking) (names : Named) (part : TablePart) (is_true 
       let fits : length R ≤ 32 * (part.part + 1) = subst (λ k. length R ≤ 32 * k) (sym all) (rows_fit R) in
       let rows_whole : w.rows ≡ R = on.takes.rows ∙ take_all (32 * (part.part + 1)) R fits in
       ap (λ k. fold row_added (empty_table k) w.rows) on.takes.limit ∙ ap (λ rows. fold row_added (empty_table m.limit) rows) rows_whole
-      ∙ filled m.limit m.path ∙ ap (λ k. fold_of m.limit k.path) on.names_are
+      ∙ again m.limit m.path ∙ ap (λ k. fold_of m.limit k.path) on.names_are
 
   -- the part is expected where the model takes it
   as_expected : (p : Option TakenParts) → TakesPartsOf link p t → is_expected p part ≡ is_taken link t part

@@ -1,21 +1,20 @@
 -- The outstanding part of a path's table is a true part of it.
-use Rattle.std.proofs.Common.{◌≡◌, ◌<◌, ◌≤◌, ◌*◌, List, length, take, drop, arith, ap, ◌∙◌}
+use Rattle.std.proofs.Common.{◌≡◌, ℕ, ◌<◌, ◌≤◌, ◌*◌, List, length, take, drop, arith, ap, ◌∙◌}
 use Rattle.std.proofs.lemmas.List.{length-take}
 use Rattle.svr_base.specs.declared.row.Row.{Row}
 use Rattle.std.proofs.lemmas.List.Elements.{All-take, All-drop}
 use Rattle.record_table.specs.Valid.{IsSound, IsValidRow}
 use Rattle.table_transfer.specs.TakenParts.{IsTakable}
-use Rattle.replica_model.specs.Path.{Link}
+use Rattle.replica_model.specs.Path.{Link, Path}
 use Rattle.replica_model.specs.Replica.{Named}
 use Rattle.replica_model.specs.Folds.{fold_of}
 use Rattle.replica_model.specs.Tables.{parts_of, rows_in_part, IsTruePart}
 use Rattle.table_transfer.specs.SentTable.{SentTable, part_at, SendsTableOf}
-use Rattle.table_transfer.proofs.Filled.{kept_of}
 
-pub true_part : (link : Link) (s : SentTable) (names : Named) → SendsTableOf link s names → s.part < parts_of s.table.rows
+pub true_part : ((limit : ℕ) (path : Path) → (fold_of limit path).limit ≡ limit) → (link : Link) (s : SentTable) (names : Named) → SendsTableOf link s names → s.part < parts_of s.table.rows
     → IsTruePart link (part_at s s.part) names
-true_part link s names sends below =
-    let limit_is : s.table.limit ≡ names.limit = ap (λ t. t.limit) sends.table ∙ (kept_of names.limit names.path).limit_is in
+true_part limits link s names sends below =
+    let limit_is : s.table.limit ≡ names.limit = ap (λ t. t.limit) sends.table ∙ limits names.limit names.path in
     let rows_are : s.table.rows ≡ (fold_of names.limit names.path).rows = ap (λ t. t.rows) sends.table in
     record {
       is_part = λ i. record {

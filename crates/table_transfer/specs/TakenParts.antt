@@ -1,10 +1,10 @@
 -- The parts of a table that were taken, as values.
-use Rattle.std.specs.Prelude.{ℕ, ◌+◌, ◌<◌, ◌≤◌, Bool, ◌==◌, cond, if◌then◌else◌, List, [], ◌++◌, fold, Option, Some, None, All}
+use Rattle.std.specs.Prelude.{ℕ, ◌+◌, ◌<◌, ◌≤◌, Bool, ◌==◌, cond, List, [], ◌++◌, fold, Option, Some, None, All}
 use Rattle.svr_base.specs.declared.entry.Point.{Point}
 use Rattle.svr_base.specs.declared.row.Row.{Row}
 use Rattle.svr_base.specs.declared.peer.TablePart.{TablePart}
 use Rattle.record_table.specs.declared.store.TheConstants.{MOST_ROWS}
-use Rattle.record_table.specs.Table.{RecordTable, empty_table, can_add, with_row}
+use Rattle.record_table.specs.Table.{RecordTable, empty_table, row_added}
 use Rattle.record_table.specs.Valid.{IsValidRow}
 use Rattle.replica_model.specs.Path.{first_hash, same_point}
 use Rattle.table_transfer.specs.declared.taking.TakePart.{TakePart}
@@ -53,10 +53,6 @@ abbrev pub with_part : Option TakenParts → TablePart → TakenParts
 with_part p part =
     let before = before_part p part in
     record { point = before.point; next = part.part + 1; limit = before.limit; rows = before.rows ++ part.rows }
-
--- the table with the row, unless its client is known or there is no room
-abbrev pub row_added : RecordTable → Row → RecordTable
-row_added table row = if can_add table row then with_row table row else table
 
 -- the table of all rows that were taken
 abbrev pub table_of : TakenParts → RecordTable

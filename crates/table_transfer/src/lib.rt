@@ -6,11 +6,13 @@
 //! same one.
 #![tactic(auto)]
 
+mod laws;
 mod points;
 mod sending;
 mod taking;
 #[cfg(test)]
 mod tests;
 
+pub use points::voters_of;
 pub use sending::{Sending, Sent};
 pub use taking::{TakePart, Taking};

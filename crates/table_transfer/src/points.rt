@@ -14,7 +14,7 @@ pub fn same_point(a: &Point, b: &Point) -> bool
     a.index == b.index && a.hash.0 == b.hash.0
 }
 
-/// The voters of a configuration.
+/// The ids of a configuration's voters, in rising order. With its margin they make that configuration again.
 pub fn voters_of(alloc: Global, config: &Config) -> Result<Ids, Memory>
     ensures voters { IfOk result (λ ids. ids ≡ config.now.voters) }
     ensures made { conf_of config.now.margin config.now.voters ≡ Ok config.now }

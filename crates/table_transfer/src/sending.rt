@@ -9,6 +9,7 @@ ghost use Rattle.replica_model.specs.Tables.{parts_of, IsTruePart};
 ghost use Rattle.table_transfer.specs.SentTable.{begun, part_at, heard, after_heard, SendsTableOf};
 ghost use Rattle.table_transfer.specs.TakenParts.{IsTakable};
 
+use crate::laws::tables_of_paths;
 use crate::points::{same_point, voters_of};
 use group_quorum::Config;
 use record_table::Table;
@@ -92,6 +93,8 @@ impl Sending {
         ensures sized { IfOk result (λ part. (part.parts ≤ 625) × (length part.rows ≤ ROWS_PER_PART)) }
         ensures members { IfOk result (λ part. conf_of part.margin part.voters ≡ Ok self.now.conf) }
     {
+        // what the part says of a path's table rests on this law
+        tables_of_paths();
         let voters = voters_of(self.alloc, &self.config)?;
         Ok(TablePart {
             point: self.point,

@@ -1,14 +1,15 @@
 //! The parts of a table that were taken.
 ghost use Rattle.std.specs.Prelude.{◌≡◌, ◌+◌, ◌≤◌, ◌++◌, None, Some, fold, IfOk, OnOk, OnErr, All};
 ghost use Rattle.record_table.specs.declared.store.TheConstants.{MOST_ROWS};
-ghost use Rattle.record_table.specs.Table.{empty_table};
+ghost use Rattle.record_table.specs.Table.{empty_table, row_added};
 ghost use Rattle.record_table.specs.Valid.{IsValidRow};
 ghost use Rattle.replica_model.specs.Path.{Link};
 ghost use Rattle.replica_model.specs.Replica.{Named, Taking as TakingOf};
 ghost use Rattle.replica_model.specs.Tables.{IsTruePart};
-ghost use Rattle.table_transfer.specs.TakenParts.{expected_point, expected_next, is_expected, IsTakable, with_part, table_of, take_part, row_added};
+ghost use Rattle.table_transfer.specs.TakenParts.{expected_point, expected_next, is_expected, IsTakable, with_part, table_of, take_part};
 ghost use Rattle.table_transfer.specs.Taken.{TakesPartsOf, GoesOn, TakesAs};
 
+use crate::laws::tables_of_paths;
 use crate::points::same_point;
 use record_table::Table;
 use std::alloc::Global;
@@ -85,6 +86,8 @@ impl Taking {
             → IfOk result (TakesAs link taking part.now names self.new) }
         ensures err { OnErr result (self.new ≡ self.old) }
     {
+        // what is taken of a path's table rests on this law
+        tables_of_paths();
         if !self.expects(part) {
             let (point, next) = self.expected();
             return Ok(TakePart::Other { point, next });

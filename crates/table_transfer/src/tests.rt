@@ -1,6 +1,6 @@
 //! Whole transfers, and each public call on its happy path.
 
-use crate::{Sending, Sent, TakePart, Taking};
+use crate::{Sending, Sent, TakePart, Taking, voters_of};
 use group_quorum::Config;
 use record_table::Table;
 use std::alloc::Global;
@@ -88,5 +88,13 @@ fn a_part_of_another_table(rt: HostRuntime) -> Result<(), Fail> {
     assert_eq!(rt; mine.heard(&POINT, 1), Sent::Ignored);
     let last = mine.copy()?.part()?;
     assert!(rt; matches!(taking.copy()?.take_part(&last)?, TakePart::Whole(_)));
+    Ok(())
+}
+
+#[test]
+fn voters_in_rising_order(rt: HostRuntime) -> Result<(), Fail> {
+    let config = Config::new(&[3, 65_535, 1], 1)?;
+    let voters = voters_of(rt.alloc(), &config)?;
+    assert_eq!(rt; voters.as_slice(), [1, 3, 65_535].as_slice());
     Ok(())
 }

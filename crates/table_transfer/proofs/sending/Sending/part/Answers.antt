@@ -6,7 +6,7 @@ use Rattle.table_transfer.proofs.sending.Sending.part.Goals as goal
 
 pub returns-clause-of_path : goal.returns-clause-of_path
 returns-clause-of_path c = λ link names sends.
-    subst (λ part. IsTruePart link part names) (sym (search rules)) (true_part link c.args.self.now names sends (search rules))
+    subst (λ part. IsTruePart link part names) (sym (search rules)) (true_part c.tables_of_paths.ensures.limit link c.args.self.now names sends (search rules))
 
 pub returns-clause-takable : goal.returns-clause-takable
 returns-clause-takable c = subst IsTakable (sym (search rules)) (takable c.args.self.now c.parts.ensures.sound (search rules))
