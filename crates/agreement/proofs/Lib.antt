@@ -1,4 +1,4 @@
-pub mod Counting
+mod Counting
 pub mod Places
 pub mod Promised
 pub mod Committing

@@ -1,17 +1,18 @@
 -- Paths whose places were all promised never differ.
-use Rattle.std.proofs.Common.{◌≡◌, ℕ, Bool, true, inl, inr, [], ◌∷◌, ◌++◌, refl, sym, ap, ◌∙◌, subst, append_assoc, arith}
+use Rattle.std.proofs.Common.{◌≡◌, ℕ, Bool, inl, inr, [], ◌∷◌, ◌++◌, refl, sym, ap, ◌∙◌, subst, append_assoc}
 use Rattle.std.proofs.lemmas.List.{append-nil, append_cancel_left}
 use Rattle.svr_base.specs.declared.entry.Body.{Body}
 use Rattle.svr_base.specs.declared.entry.Body.TheVariants.{Noop, Ask, Members}
 use Rattle.svr_base.specs.declared.entry.LogEntry.{LogEntry}
 use Rattle.group_quorum.specs.Conf.{Conf}
+use Rattle.group_quorum.specs.Sharing.{QuorumsOutlast, CountsOverlap}
 use Rattle.replica_model.specs.Path.{Path}
 use Rattle.replica_model.specs.Configs.{changed_by, conf}
 use Rattle.group_model.specs.Log.{IsFrontOf}
 use Rattle.agreement.specs.Promised.{IsComparable}
 use Rattle.group_model.specs.Log.{MetBy}
 use Rattle.agreement.specs.Promised.{EachPlacePromised, Bears, KeepsToOnePath}
-use Rattle.agreement.proofs.Counting.{counted, shared_voter}
+use Rattle.agreement.proofs.Counting.{some_voter, shared_voter}
 use Rattle.replica_model.proofs.Paths.{conf-append}
 
 -- one entry further on a path
@@ -37,7 +38,7 @@ pub each_nil : (first : Conf) (Ever : ℕ → Path → Type 0) → EachPlaceProm
 each_nil first Ever [] a r is = cc
 each_nil first Ever (x ∷ c) a r is = cc
 
-module _ (first : Conf) (rolled : ℕ → Bool) (Ever : ℕ → Path → Type 0) (history : KeepsToOnePath first rolled Ever) where
+module _ (outlast : QuorumsOutlast) (overlap : CountsOverlap) (first : Conf) (rolled : ℕ → Bool) (Ever : ℕ → Path → Type 0) (history : KeepsToOnePath first rolled Ever) where
   -- the bound holds of each configuration on the way of a path ever promised
   gained : (v : ℕ) (p : Path) (term : ℕ) (body : Body) → Ever v (p ++ record { term = term; body = body } ∷ []) → Bears rolled (conf first p) → Bears rolled (changed_by (conf first p) body)
   gained v p term Noop ever h = h
@@ -56,10 +57,10 @@ module _ (first : Conf) (rolled : ℕ → Bool) (Ever : ℕ → Path → Type 0)
   -- two such paths that agree so far agree on the next entry
   next_agrees : (c : Path) (a b : LogEntry) → MetBy (conf first c) (λ v. Ever v (c ++ a ∷ [])) → MetBy (conf first c) (λ v. Ever v (c ++ b ∷ [])) → a ≡ b
   next_agrees c a b met met' =
-      let some : (v : ℕ) × (met.who v ≡ true) = counted met.who (conf first c).voters (omega (arith, met.enough)) in
-      let ever : Ever some.0 c = history.shorter some.0 c (c ++ a ∷ []) (a ∷ [], refl) (met.each some.0 some.1) in
+      let some = some_voter overlap (conf first c) (λ v. Ever v (c ++ a ∷ [])) met in
+      let ever : Ever some.0 c = history.shorter some.0 c (c ++ a ∷ []) (a ∷ [], refl) some.1 in
       let within : Bears rolled (conf first c) = within_along some.0 [] c history.first_bears ever in
-      let shared = shared_voter (conf first c) rolled (λ v. Ever v (c ++ a ∷ [])) (λ v. Ever v (c ++ b ∷ [])) within met met' in
+      let shared = shared_voter outlast (conf first c) rolled (λ v. Ever v (c ++ a ∷ [])) (λ v. Ever v (c ++ b ∷ [])) within met met' in
       elim (history.one_path shared.0 (c ++ a ∷ []) (c ++ b ∷ []) shared.1 shared.2 shared.3) [
         | inl pre ↦ same_next c a b pre
         | inr pre ↦ sym (same_next c b a pre)

@@ -1,5 +1,5 @@
 -- Which paths were promised by quorums at each place, and when all promises keep to one path.
-use Rattle.std.specs.Prelude.{◌≡◌, ℕ, ◌*◌, ◌≤◌, Bool, true, false, ◌⊎◌, List, [], ◌∷◌, ◌++◌, count_by}
+use Rattle.std.specs.Prelude.{◌≡◌, ℕ, ◌*◌, ◌≤◌, Bool, false, ◌⊎◌, List, [], ◌∷◌, ◌++◌, count_by}
 use Rattle.svr_base.specs.declared.entry.Body.TheVariants.{Members}
 use Rattle.svr_base.specs.declared.entry.LogEntry.{LogEntry}
 use Rattle.group_quorum.specs.Conf.{Conf}

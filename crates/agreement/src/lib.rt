@@ -10,14 +10,19 @@ ghost use Rattle.group_quorum.specs.Conf.{Conf};
 ghost use Rattle.replica_model.specs.Path.{Path};
 ghost use Rattle.agreement.specs.Promised.{EachPlacePromised, IsComparable, KeepsToOnePath};
 
+use group_quorum::{counts_overlap, quorums_outlast};
+
 /// What a history says of who promised what.
 pub trait History {
     /// The replica ever promised the path, or a longer one that begins with it.
     ghost Ever: { ℕ → Path → Type 0 };
 }
 
-/// The law that two paths whose every place was promised never differ, where all promises keep to one path. It does
-/// nothing.
+/// The law that two paths whose every place was promised never differ, where all promises keep to one path. It only
+/// names the laws of quorums.
 pub fn promised_paths_agree<H: History>()
     ensures { (first : Conf) (rolled : ℕ → Bool) → KeepsToOnePath first rolled H.Ever → (p q : Path) → EachPlacePromised first H.Ever p → EachPlacePromised first H.Ever q → IsComparable p q }
-{}
+{
+    quorums_outlast();
+    counts_overlap();
+}

@@ -128,7 +128,8 @@ module _ (link : Link) (w g : World) (k : KeptWorld g) (same : KeptWorld w) wher
 
   acts_goes : (e : Event) → KeptWorld (group_after w (happening.acts (enclaves link) e g))
   acts_goes (event.Begin margin limit voters) = k
-  acts_goes (event.Start x) = unless_goes link w g k same (is_in g.started x) _ (happening.starts (enclaves link) x) (starts_goes link w g k same x)
+  acts_goes (event.Start zero) = k
+  acts_goes (event.Start (suc x)) = unless_goes link w g k same (is_in g.started (suc x)) _ (happening.starts (enclaves link) (suc x)) (starts_goes link w g k same (suc x))
   acts_goes (event.Tick v) = tells_goes link w g k same v Tick tt
   acts_goes (event.Deliver j) = delivers_goes j (numbered g.messages j) (mail_at j)
   acts_goes (event.Lose j) = loses_goes link w g k same j (numbered g.messages j)

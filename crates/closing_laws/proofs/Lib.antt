@@ -1,7 +1,7 @@
-pub mod Tells
-pub mod Raised
-pub mod Rules
-pub mod Stepped
-pub mod Moved
-pub mod Events
-pub mod Closing
+mod Tells
+mod Raised
+mod Rules
+mod Stepped
+mod Moved
+mod Events
+mod Closing

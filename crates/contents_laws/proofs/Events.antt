@@ -1,5 +1,5 @@
 -- Each event happens alike where contents answer its calls.
-use Rattle.std.proofs.Common.{◌≡◌, ℕ, ◌==◌, ◌-◌, not, Bool, true, false, Option, Some, None, Result, Ok, Err, List, [], ◌∷◌, ◌++◌, length, map, slice_get, refl, sym, ap, subst, ◌∙◌}
+use Rattle.std.proofs.Common.{◌≡◌, ℕ, zero, suc, ◌==◌, ◌-◌, not, Bool, true, false, Option, Some, None, Result, Ok, Err, List, [], ◌∷◌, ◌++◌, length, map, slice_get, refl, sym, ap, subst, ◌∙◌}
 use Rattle.std.specs.Prelude.{option_map, unwrap_or, nat_le, is_some, is_none, if◌then◌else◌}
 use Rattle.std.specs.List.{AllByRecursion}
 use Rattle.std.proofs.lemmas.List.{append_assoc}
@@ -209,7 +209,8 @@ module _ (batch_bytes : ℕ → Batch → List ℕ) (batch_of : ReadsBatch) (lin
 
     acts_alike : (e : Event) → Alike (Old g) (λ left. happening.acts (contents batch_of) e (shadow g left)) (happening.acts (enclaves link) e g)
     acts_alike (event.Begin margin limit voters) = ([], refl, λ read rest. refl)
-    acts_alike (event.Start r) = unless_alike g (is_in g.started r) _ (happening.starts (enclaves link) r) (happening.starts (contents batch_of) r) (starts_alike g r)
+    acts_alike (event.Start zero) = ([], refl, λ read rest. refl)
+    acts_alike (event.Start (suc r)) = unless_alike g (is_in g.started (suc r)) _ (happening.starts (enclaves link) (suc r)) (happening.starts (contents batch_of) (suc r)) (starts_alike g (suc r))
     acts_alike (event.Tick r) = tells_alike g r Tick Tick
     acts_alike (event.Deliver k) =
         subst (λ o. Alike (Old g) (λ left. happening.delivers (contents batch_of) k o (shadow g left)) (happening.delivers (enclaves link) k (numbered g.messages k) g)) (sym (numbered_shadow g.messages k)) (delivers_alike k (numbered g.messages k))

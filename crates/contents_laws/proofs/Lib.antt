@@ -1,3 +1,3 @@
-pub mod Shadow
-pub mod Events
-pub mod Played
+mod Shadow
+mod Events
+mod Played

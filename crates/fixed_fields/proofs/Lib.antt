@@ -1,4 +1,4 @@
 pub mod Bytes
-pub mod Closing
+mod Closing
 pub mod Laws
 pub mod Numbers

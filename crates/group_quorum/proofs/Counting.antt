@@ -1,5 +1,5 @@
 -- How many elements of a list pass a test.
-use Rattle.std.proofs.Common.{◌≡◌, ℕ, ◌+◌, ◌≤◌, Bool, true, false, cond, ◌&&◌, List, [], ◌∷◌, length, count_by, arith}
+use Rattle.std.proofs.Common.{◌≡◌, ℕ, ◌+◌, ◌<◌, ◌≤◌, Bool, true, false, cond, not, ◌&&◌, List, [], ◌∷◌, length, count_by, refl, arith}
 use Rattle.std.proofs.lemmas.List.Sums.{sum_by-cons}
 
 -- a test as a number
@@ -20,3 +20,35 @@ pub count_both : (f g : ℕ → Bool) (xs : List ℕ) → count_by f xs + count_
 count_both f g [] = omega arith
 count_both f g (x ∷ xs) =
     omega (arith, count-cons f x xs, count-cons g x xs, count-cons (λ y. f y && g y) x xs, both_bits (f x) (g x), count_both f g xs)
+
+split_bit : (a b : Bool) → bit a ≤ bit b + bit (a && not b)
+split_bit true true = omega arith
+split_bit true false = omega arith
+split_bit false true = omega arith
+split_bit false false = omega arith
+
+-- what a test counts, another one counts too, or not
+pub count_split : (f r : ℕ → Bool) (xs : List ℕ) → count_by f xs ≤ count_by r xs + count_by (λ x. f x && not (r x)) xs
+count_split f r [] = omega arith
+count_split f r (x ∷ xs) =
+    omega (arith, count-cons f x xs, count-cons r x xs, count-cons (λ y. f y && not (r y)) x xs, split_bit (f x) (r x), count_split f r xs)
+
+-- what counts something holds of something
+pub counted : (f : ℕ → Bool) (xs : List ℕ) → 0 < count_by f xs → (x : ℕ) × (f x ≡ true)
+counted f [] h = absurd (omega arith)
+counted f (x ∷ xs) h = counted_at f x xs (f x) refl h (counted f xs)
+  where
+    counted_at : (f : ℕ → Bool) (x : ℕ) (xs : List ℕ) (b : Bool) → f x ≡ b → 0 < count_by f (x ∷ xs) → (0 < count_by f xs → (y : ℕ) × (f y ≡ true)) → (y : ℕ) × (f y ≡ true)
+    counted_at f x xs true e h rest = (x, e)
+    counted_at f x xs false e h rest = rest (let k : bit (f x) ≡ 0 = rw e refl in omega (arith, count-cons f x xs))
+
+more_bit : (a b : Bool) → (a ≡ true → b ≡ true) → bit a ≤ bit b
+more_bit true true h = omega arith
+more_bit true false h = absurd (let never : false ≡ true = h refl in cc)
+more_bit false true h = omega arith
+more_bit false false h = omega arith
+
+-- a test that passes wherever another one does counts as many
+pub count_more : (f g : ℕ → Bool) (xs : List ℕ) → ((x : ℕ) → f x ≡ true → g x ≡ true) → count_by f xs ≤ count_by g xs
+count_more f g [] more = omega arith
+count_more f g (x ∷ xs) more = omega (arith, count-cons f x xs, count-cons g x xs, more_bit (f x) (g x) (more x), count_more f g xs more)

@@ -1,16 +1,16 @@
 -- The greatest mark that a quorum has reached, among marks in order.
-use Rattle.std.proofs.Common.{◌≡◌, ℕ, zero, suc, ◌+◌, ◌-◌, ◌<◌, ◌≤◌, Bool, true, false, max, List, [], ◌∷◌, length, get_or, take, take_all, map, leb, count_by, refl, sym, ap, ◌∙◌, subst, arith}
+use Rattle.std.proofs.Common.{◌≡◌, ℕ, zero, suc, ◌+◌, ◌-◌, ◌<◌, ◌≤◌, Bool, true, false, max, List, [], ◌∷◌, length, get_or, take, take_all, map, leb, count_by, inl, inr, refl, sym, ap, ◌∙◌, subst, arith}
 use Rattle.std.specs.Prelude.{filter, fold}
 use Rattle.std.specs.List.Sorted.{IsNonDecreasing, IsPermutation, IsSorted}
 use Rattle.std.specs.Ordering.{nat_cmp}
-use Rattle.std.proofs.lemmas.Bool.{cond_both, leb-true, leb-false, le-leb, lt-leb}
+use Rattle.std.proofs.lemmas.Bool.{cond_both, cases_lt, cases_Bool, leb-true, leb-false, le-leb, lt-leb}
 use Rattle.std.proofs.lemmas.List.{length-map}
 use Rattle.std.proofs.lemmas.List.Sums.{count_by-le-length}
 use Rattle.std.proofs.lemmas.List.Sorted.{sum_by-IsPermutation, length_permutation, Contains-permutation, IsPermutation-sym, IsNonDecreasingBy-from_sort}
 use Rattle.std.proofs.lemmas.List.Elements.{Contains-get_or}
 use Rattle.group_quorum.specs.Conf.{Conf, quorum_of, Met, met}
 use Rattle.group_quorum.specs.Marks.{mark_of, reaches, greatest_met, IsGreatestMet}
-use Rattle.group_quorum.proofs.Counting.{bit, count-cons}
+use Rattle.group_quorum.proofs.Counting.{bit, count-cons, count_more}
 
 -- how many of the numbers are at least n
 abbrev pub at_least : ℕ → List ℕ → ℕ
@@ -118,3 +118,18 @@ module _ (c : Conf) (marks : List (ℕ × ℕ)) (vs : List ℕ) (is : vs ≡ c.v
 
   pub value_found : get_or sorted (length vs - q) 0 ≡ greatest_met c marks
   value_found = ap (λ i. get_or sorted i 0) (sym same_place) ∙ found_is c marks sorted moved_marks rising_marks enough
+
+-- a quorum has reached the numbers up to the greatest one, and no others
+pub reached_upto : (c : Conf) (marks : List (ℕ × ℕ)) (n : ℕ) → IsGreatestMet c marks n → (i : ℕ) → met c (reaches marks i) ≡ leb i n
+reached_upto c marks n is i = elim (cases_lt n i) [
+  | inl past ↦
+      (elim (cases_Bool (met c (reaches marks i))) [
+        | inl pass ↦ absurd (let at_most : i ≤ n = is.greatest i (leb-true (quorum_of c) (count_by (reaches marks i) c.voters) pass) in omega (arith, at_most, past))
+        | inr fail ↦ fail ∙ sym (lt-leb i n past)
+      ])
+  | inr within ↦
+      let weaker : count_by (reaches marks n) c.voters ≤ count_by (reaches marks i) c.voters =
+      count_more (reaches marks n) (reaches marks i) c.voters (λ v e. le-leb i (mark_of marks v) (let r : n ≤ mark_of marks v = leb-true n (mark_of marks v) e in omega (arith, r, within))) in
+      let reached = is.reached in
+      le-leb (quorum_of c) (count_by (reaches marks i) c.voters) (omega (arith, weaker, reached)) ∙ sym (le-leb i n within)
+]

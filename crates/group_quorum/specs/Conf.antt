@@ -1,5 +1,5 @@
 -- A configuration of a group, its quorum, and who meets it.
-use Rattle.std.specs.Prelude.{ℕ, ◌+◌, ◌*◌, ◌/◌, ◌≤◌, Bool, ◌&&◌, List, length, nat_le, count_by}
+use Rattle.std.specs.Prelude.{ℕ, ◌+◌, ◌/◌, ◌≤◌, Bool, List, length, nat_le, count_by}
 
 -- the voters in rising order, and the margin: so many more than a majority must agree, since a voter that is rolled back forgets what it promised
 pub record Conf : Type 0 where
@@ -17,7 +17,3 @@ Met c who = quorum_of c ≤ count_by who c.voters
 -- the same as a test
 abbrev pub met : Conf → (ℕ → Bool) → Bool
 met c who = nat_le (quorum_of c) (count_by who c.voters)
-
--- two quorums of one configuration share at least one voter more than twice its margin
-abbrev pub QuorumsShare : Type 0
-QuorumsShare = (c : Conf) (who others : ℕ → Bool) → Met c who → Met c others → 2 * c.margin + 1 ≤ count_by (λ v. who v && others v) c.voters

@@ -1,4 +1,5 @@
 pub mod Conf
+pub mod Sharing
 pub mod Marks
 pub mod Stored
 pub mod Voters

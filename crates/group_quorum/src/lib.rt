@@ -4,13 +4,13 @@
 //! they still share one voter that remembers where up to twice the margin of voters were set back.
 #![tactic(auto)]
 
-ghost use Rattle.group_quorum.specs.Conf.{QuorumsShare};
-
 mod config;
+mod laws;
 mod marks;
 mod voters;
 
 pub use config::Config;
+pub use laws::{counts_overlap, more_meet, quorums_outlast, quorums_share};
 
 /// The greatest number of voters in a configuration.
 pub const MAX_VOTERS: usize = 31;
@@ -29,11 +29,6 @@ pub enum ConfigFault {
     /// Fewer voters than twice the margin and one: how many.
     TooFew(u32),
 }
-
-/// The law that any two quorums of one configuration share more than twice its margin of voters. It does nothing.
-pub fn quorums_share()
-    ensures { QuorumsShare }
-{}
 
 #[cfg(test)]
 mod tests;

@@ -1,5 +1,6 @@
-ghost use Rattle.std.specs.Prelude.{◌≡◌};
-ghost use Rattle.group_quorum.specs.Marks.{mark_of, greatest_met, IsGreatestMet};
+ghost use Rattle.std.specs.Prelude.{◌≡◌, ℕ, nat_le};
+ghost use Rattle.group_quorum.specs.Conf.{met};
+ghost use Rattle.group_quorum.specs.Marks.{mark_of, reaches, greatest_met, IsGreatestMet};
 
 use crate::{Config, MAX_VOTERS};
 
@@ -8,6 +9,7 @@ impl Config {
     /// reached 0; of several marks of one voter the first counts.
     pub fn greatest_met(&self, marks: &[(u32, u64)]) -> u64
         ensures greatest { IsGreatestMet self.now marks.now result }
+        ensures reached { (number : ℕ) → met self.now (reaches marks.now number) ≡ nat_le number result }
         ensures value { result ≡ greatest_met self.now marks.now }
     {
         let voters = self.voters();

@@ -1,11 +1,15 @@
 -- Quorums of two configurations that differ by one voter, whatever their margins, share a voter.
-use Rattle.std.proofs.Common.{◌≡◌, ℕ, ◌+◌, ◌<◌, ◌≤◌, ◌==◌, Bool, true, false, ◌&&◌, ◌||◌, inl, inr, List, [], ◌∷◌, length, bytes_eq, count_by, ap, arith}
+use Rattle.std.proofs.Common.{◌≡◌, ℕ, ◌+◌, ◌≤◌, ◌==◌, Bool, true, false, cond, ◌&&◌, ◌||◌, inl, inr, List, [], ◌∷◌, length, bytes_eq, count_by, ap, arith}
 use Rattle.std.proofs.lemmas.Bool.{and_parts, or_cases, eqb-true}
+use Rattle.std.proofs.lemmas.List.Sums.{sum_by-cons}
 use Rattle.group_quorum.specs.Conf.{Conf}
-use Rattle.agreement.proofs.Counting.{counted}
-use Rattle.halt_machine.proofs.Counted.{count_both, bit, count-cons}
+use Rattle.group_quorum.proofs.Sharing.{counts_overlap}
 use Rattle.halt_machine.specs.Changes.{Overlap, is_rising, is_one_more, is_single_change}
 use Rattle.halt_machine.proofs.Same.{bytes_same}
+
+-- a test as a number
+abbrev bit : Bool → ℕ
+bit b = cond b 1 0
 
 bit_le : (b : Bool) → bit b ≤ 1
 bit_le true = omega arith
@@ -19,7 +23,7 @@ record OneMore (xs ys : List ℕ) : Type 0 where
 put_first : (y : ℕ) (xs ys : List ℕ) → xs ≡ ys → OneMore xs (y ∷ ys)
 put_first y xs ys same = record {
   long = let l : length xs ≡ length ys = ap length same in omega (arith, l);
-  counts = λ f. let c : count_by f xs ≡ count_by f ys = ap (count_by f) same in omega (arith, c, count-cons f y ys, bit_le (f y));
+  counts = λ f. let c : count_by f xs ≡ count_by f ys = ap (count_by f) same in omega (arith, c, sum_by-cons (λ v. bit (f v)) y ys, bit_le (f y));
 }
 
 one_more_counts : (xs ys : List ℕ) → is_one_more xs ys ≡ true → OneMore xs ys
@@ -33,16 +37,10 @@ one_more_counts (x ∷ xs) (y ∷ ys) h = elim (or_cases ((x == y) && is_one_mor
       let rest = one_more_counts xs ys parts.1 in
       record {
         long = omega (arith, rest.long);
-        counts = λ f. let b : bit (f x) ≡ bit (f y) = ap (λ z. bit (f z)) same in omega (arith, count-cons f x xs, count-cons f y ys, rest.counts f, b);
+        counts = λ f. let b : bit (f x) ≡ bit (f y) = ap (λ z. bit (f z)) same in omega (arith, sum_by-cons (λ v. bit (f v)) x xs, sum_by-cons (λ v. bit (f v)) y ys, rest.counts f, b);
       }
   | inr here ↦ put_first y (x ∷ xs) ys (bytes_same (x ∷ xs) ys here)
 ]
-
-both_counted : (f g : ℕ → Bool) (xs : List ℕ) → length xs < count_by f xs + count_by g xs → (v : ℕ) × (f v ≡ true) × (g v ≡ true)
-both_counted f g xs lt =
-    let some : (v : ℕ) × ((f v && g v) ≡ true) = counted (λ v. f v && g v) xs (omega (arith, count_both f g xs)) in
-    let parts = and_parts (f some.0) (g some.0) some.1 in
-    (some.0, parts.0, parts.1)
 
 pub single_change_overlaps : (c d : Conf) → is_single_change c d ≡ true → Overlap c d
 single_change_overlaps c d near f g hf hg = elim (or_cases (bytes_eq c.voters d.voters) (is_one_more c.voters d.voters || is_one_more d.voters c.voters) (and_parts (is_rising d.voters) (bytes_eq c.voters d.voters || (is_one_more c.voters d.voters || is_one_more d.voters c.voters)) near).1) [
@@ -50,13 +48,13 @@ single_change_overlaps c d near f g hf hg = elim (or_cases (bytes_eq c.voters d.
       let is : c.voters ≡ d.voters = bytes_same c.voters d.voters same in
       let long : length c.voters ≡ length d.voters = ap length is in
       let count : count_by g c.voters ≡ count_by g d.voters = ap (count_by g) is in
-      both_counted f g c.voters (omega (arith, hf, hg, long, count))
+      counts_overlap c.voters f g (omega (arith, hf, hg, long, count))
   | inr other ↦ elim (or_cases (is_one_more c.voters d.voters) (is_one_more d.voters c.voters) other) [
     | inl more ↦
         let m = one_more_counts c.voters d.voters more in
-        both_counted f g c.voters (omega (arith, hf, hg, m.long, m.counts g))
+        counts_overlap c.voters f g (omega (arith, hf, hg, m.long, m.counts g))
     | inr less ↦
         let m = one_more_counts d.voters c.voters less in
-        both_counted f g d.voters (omega (arith, hf, hg, m.long, m.counts f))
+        counts_overlap d.voters f g (omega (arith, hf, hg, m.long, m.counts f))
   ]
 ]

@@ -9,18 +9,14 @@ use Rattle.replica_model.specs.Configs.{conf}
 use Rattle.group_model.specs.Log.{IsFrontOf}
 use Rattle.agreement.specs.Promised.{IsComparable}
 use Rattle.halt_machine.proofs.Fronts.{begins, front_nil, front_append, front_length, both_fronts, front_long, same_next, step_of, last_push, ends}
-use Rattle.agreement.proofs.Counting.{counted}
-use Rattle.group_quorum.proofs.Sharing.{share}
+use Rattle.group_quorum.proofs.Sharing.{counts_overlap}
 use Rattle.replica_model.specs.Votes.{as_new}
 use Rattle.halt_machine.specs.Machine.{Reign, History, Chosen}
 use Rattle.halt_machine.specs.Changes.{Overlap}
 use Rattle.halt_machine.proofs.Good.{ledger, Settled, Known, HasAccepted, Safe, Elected, Newer, GoodHistory}
 
 pub overlap_same : (c : Conf) → Overlap c c
-overlap_same c f g hf hg =
-    let some : (v : ℕ) × ((f v && g v) ≡ true) = counted (λ v. f v && g v) c.voters (omega (arith, share c f g hf hg)) in
-    let parts = and_parts (f some.0) (g some.0) some.1 in
-    (some.0, parts.0, parts.1)
+overlap_same c f g hf hg = counts_overlap c.voters f g (omega (arith, hf, hg))
 
 pub same_reign : (o : Option Reign) (r s : Reign) → o ≡ Some r → o ≡ Some s → r ≡ s
 same_reign o r s a b = let both : Some r ≡ Some s = sym a ∙ b in cc

@@ -1,4 +1,4 @@
-pub mod Past
+mod Past
 pub mod Played
-pub mod Driving
-pub mod Headlines
+mod Driving
+mod Headlines

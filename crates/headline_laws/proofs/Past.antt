@@ -1,5 +1,5 @@
 -- Every event that happens is counted, and nothing else is.
-use Rattle.std.proofs.Common.{◌≡◌, ℕ, not, Bool, true, false, Option, Some, None, Result, Ok, Err, List, [], ◌∷◌, refl}
+use Rattle.std.proofs.Common.{◌≡◌, ℕ, zero, suc, not, Bool, true, false, Option, Some, None, Result, Ok, Err, List, [], ◌∷◌, refl}
 use Rattle.std.specs.Prelude.{nat_le, is_none, unwrap_or}
 use Rattle.std.proofs.lemmas.Bool.{cond_both}
 use Rattle.group_quorum.specs.Conf.{Conf}
@@ -96,7 +96,8 @@ module _ {M F : Type 0} where
 
     acts_past : (e : Event) → HasPast g.past (happening.acts field e g)
     acts_past (event.Begin margin limit voters) = refl
-    acts_past (event.Start r) = unless_past field (is_in g.started r) _ g (happening.starts field r) (starts_past r)
+    acts_past (event.Start zero) = refl
+    acts_past (event.Start (suc r)) = unless_past field (is_in g.started (suc r)) _ g (happening.starts field (suc r)) (starts_past (suc r))
     acts_past (event.Tick r) = tells_past r Tick
     acts_past (event.Deliver k) = delivers_past k (numbered g.messages k)
     acts_past (event.Lose k) = loses_past k (numbered g.messages k)

@@ -1,5 +1,5 @@
 -- What is written of an item is read again as that item.
-use Rattle.std.proofs.Common.{◌≡◌, ℕ, ◌<◌, ◌≤◌, ◌^◌, Bool, true, false, cond, leb, ltb, List, [], ◌∷◌, ◌++◌, length, Option, Some, None, refl, sym, ap, ◌∙◌, arith}
+use Rattle.std.proofs.Common.{◌≡◌, ℕ, ◌<◌, ◌≤◌, ◌^◌, Bool, true, false, cond, leb, ltb, List, [], ◌∷◌, ◌++◌, length, Option, Some, None, Ok, refl, sym, ap, ◌∙◌, arith}
 use Rattle.std.specs.Prelude.{nat_le, ◌&&◌, ◌||◌}
 use Rattle.std.specs.Int.{w8, w32, w64}
 use Rattle.std.proofs.lemmas.Bool.{le-leb, lt-ltb, leb-true, ltb-true, and_from, and_parts, ltb-false, le-ltb}
@@ -7,7 +7,9 @@ use Rattle.fixed_fields.specs.Formats.{◌>>=◌, Content, number, block, nothin
 use Rattle.fixed_fields.proofs.Bytes.{wide8, wide32, wide64}
 use Rattle.fixed_fields.proofs.Laws.{number_is, block_is, rest_is, alone_is, before_is}
 use Rattle.fixed_fields.proofs.Numbers.{numbers_is, counted_is}
-use Rattle.client_msgs.proofs.RoundTrip.{response_of-canonical}
+use Rattle.client_msgs.specs.Canonical.{canonical_response}
+use Rattle.client_msgs.specs.Reading.{response_of}
+use Rattle.client_msgs.specs.Sizes.{FitsResponse}
 use Rattle.group_quorum.specs.Voters.{is_id}
 use Rattle.group_msgs.specs.Canonical.{canonical_peer}
 use Rattle.attested_link.specs.Frames.{link_frame, frame_bytes}
@@ -25,6 +27,7 @@ use Rattle.svr_base.specs.declared.message.Answer.TheVariants as answer
 use Rattle.svr_base.specs.declared.message.Part.{Part}
 use Rattle.svr_base.specs.declared.message.Part.TheVariants as part
 use Rattle.svr_base.specs.declared.message.Reply.{Reply}
+use Rattle.svr_base.specs.declared.message.Response.{Response}
 use Rattle.svr_base.specs.declared.message.Reply.TheVariants as reply
 use Rattle.svr_base.specs.declared.peer.PeerMsg.{PeerMsg}
 use Rattle.host_msgs.specs.declared.item.Item.{Item}
@@ -123,11 +126,15 @@ body_again (body.Ask client number request) is =
 body_again (body.Members margin voters) is =
     read_as conf_fields _ conf_is (margin, voters) (is.0, is.1.0) (λ p. only_if (is_conf p.0 p.1) (body.Members p.0 p.1)) ∙ held (is_conf margin voters) (body.Members margin voters) is.1.1
 
-reply_again : (r : Reply) → IsReply r → reply_in (reply_kind r) (reply_content r) ≡ Some r
+-- what is said of responses
+abbrev Responses : Type 0
+Responses = (response : Response) → FitsResponse response → response_of (canonical_response response) ≡ Ok response
+
+reply_again : Responses → (r : Reply) → IsReply r → reply_in (reply_kind r) (reply_content r) ≡ Some r
 unfolding reply_in response_in
-reply_again (reply.Applied response) is = ap (λ o. if_ok o >>= λ r. Some (reply.Applied r)) (response_of-canonical response is)
-reply_again (reply.Stale last) is = read_as long_field IsLong long_is last is (λ n. Some (reply.Stale n))
-reply_again (reply.TableFull rows) is = read_as word_field (IsOfWidth w32) word_is rows is (λ n. Some (reply.TableFull n))
+reply_again responses (reply.Applied response) is = ap (λ o. if_ok o >>= λ r. Some (reply.Applied r)) (responses response is)
+reply_again responses (reply.Stale last) is = read_as long_field IsLong long_is last is (λ n. Some (reply.Stale n))
+reply_again responses (reply.TableFull rows) is = read_as word_field (IsOfWidth w32) word_is rows is (λ n. Some (reply.TableFull n))
 
 reply_kind_fits : (r : Reply) → IsOfWidth w8 (reply_kind r)
 reply_kind_fits (reply.Applied response) = omega arith
@@ -140,20 +147,20 @@ invalid_again part.Secret size is = read_as part_fields _ part_is (1, size) (ome
 invalid_again part.Pin size is = read_as part_fields _ part_is (2, size) (omega arith, is) (λ q. part_of q.0 >>= λ r. Some (answer.Invalid r q.1))
 invalid_again part.Tries size is = read_as part_fields _ part_is (3, size) (omega arith, is) (λ q. part_of q.0 >>= λ r. Some (answer.Invalid r q.1))
 
-answer_again : (a : Answer) → IsAnswer a → answer_of (answer_kind a) (answer_bytes a) ≡ Some a
+answer_again : Responses → (a : Answer) → IsAnswer a → answer_of (answer_kind a) (answer_bytes a) ≡ Some a
 unfolding answer_of
-answer_again (answer.Outcome index r) is =
+answer_again responses (answer.Outcome index r) is =
     read_as outcome_fields _ outcome_is (index, (reply_kind r, reply_content r)) (long index is.0, (reply_kind_fits r, tt)) (λ p. reply_in p.1.0 p.1.1 >>= λ s. only_if (nat_le p.0 TOP) (answer.Outcome p.0 s))
-    ∙ ap (λ o. o >>= λ s. only_if (nat_le index TOP) (answer.Outcome index s)) (reply_again r is.1)
+    ∙ ap (λ o. o >>= λ s. only_if (nat_le index TOP) (answer.Outcome index s)) (reply_again responses r is.1)
     ∙ indexed index (answer.Outcome index r) is.0
-answer_again (answer.NotLeader id) is =
+answer_again responses (answer.NotLeader id) is =
     read_as word_field (IsOfWidth w32) word_is id (omega (arith, is)) (λ n. only_if (nat_le n 65535) (answer.NotLeader n)) ∙ held (nat_le id 65535) (answer.NotLeader id) (le-leb id 65535 is)
-answer_again (answer.Busy count) is = read_as long_field IsLong long_is count is (λ n. Some (answer.Busy n))
-answer_again (answer.Undecided at kept offered) is =
+answer_again responses (answer.Busy count) is = read_as long_field IsLong long_is count is (λ n. Some (answer.Busy n))
+answer_again responses (answer.Undecided at kept offered) is =
     read_as halt_fields _ halt_is (at, (kept.0, offered.0)) (long at is.0, is.1) (λ p. only_if (nat_le p.0 TOP) (answer.Undecided p.0 (hash_of p.1.0) (hash_of p.1.1))) ∙ indexed at (answer.Undecided at kept offered) is.0
-answer_again (answer.Malformed offset) is = read_as long_field IsLong long_is offset is (λ n. Some (answer.Malformed n))
-answer_again (answer.Invalid p size) is = invalid_again p size is
-answer_again (answer.Halted index) is =
+answer_again responses (answer.Malformed offset) is = read_as long_field IsLong long_is offset is (λ n. Some (answer.Malformed n))
+answer_again responses (answer.Invalid p size) is = invalid_again p size is
+answer_again responses (answer.Halted index) is =
     read_as long_field IsLong long_is index (long index is) (λ n. only_if (nat_le n TOP) (answer.Halted n)) ∙ indexed index (answer.Halted index) is
 
 answer_kind_fits : (a : Answer) → IsOfWidth w8 (answer_kind a)
@@ -239,12 +246,12 @@ commit_again index entry is term b =
     ∙ ap (λ o. o >>= λ c. only_if (nat_le index TOP && nat_le entry.term TOP) (item.Commit index (record { term = entry.term; body = c }))) (body_again entry.body b)
     ∙ held (nat_le index TOP && nat_le entry.term TOP) (item.Commit index entry) (both (nat_le index TOP) (nat_le entry.term TOP) (le-leb index TOP is) (le-leb entry.term TOP term))
 
-told_again : (client : ClientId) (n : ℕ) (said : Answer) → IsClient client → IsLong n → IsAnswer said → item_in 6 (answer_content (client, n, said)) ≡ Some (item.Answer client n said)
+told_again : Responses → (client : ClientId) (n : ℕ) (said : Answer) → IsClient client → IsLong n → IsAnswer said → item_in 6 (answer_content (client, n, said)) ≡ Some (item.Answer client n said)
 unfolding item_in
-told_again client n said is wide a =
+told_again responses client n said is wide a =
     read_as answer_fields _ answer_is (client.0, (n, (answer_kind said, answer_bytes said))) (is, (wide, (answer_kind_fits said, tt)))
     (λ p. answer_of p.1.1.0 p.1.1.1 >>= λ b. Some (item.Answer (record { 0 = p.0 }) p.1.0 b))
-    ∙ ap (λ o. o >>= λ b. Some (item.Answer client n b)) (answer_again said a)
+    ∙ ap (λ o. o >>= λ b. Some (item.Answer client n b)) (answer_again responses said a)
 
 sent_again : (from to : ℕ) (message : PeerMsg) → is_id from ≡ true → is_id to ≡ true → message_in (canonical_peer message) ≡ Some message
     → item_in 7 (frame_bytes from to (canonical_peer message)) ≡ Some (item.Sent from to message (frame_bytes from to (canonical_peer message)))
@@ -265,14 +272,14 @@ refused_again why is =
     read_as refusal_fields _ refusal_is (refusal_numbers why) (refusal_fits why is) (λ p. refusal_of p.0 p.1.0 p.1.1 >>= λ r. Some (item.Refused r))
     ∙ ap (λ o. o >>= λ r. Some (item.Refused r)) (refusal_again why is)
 
-pub items_again : ItemsAreReadAgain
-items_again = record {
+pub items_again : Responses → ItemsAreReadAgain
+items_again responses = record {
   lead = lead_again;
   members = members_again;
   halt = halt_again;
   taken = taken_again;
   commit = commit_again;
-  answer = told_again;
+  answer = told_again responses;
   sent = sent_again;
   saved = saved_again;
   refused = refused_again;

@@ -30,9 +30,8 @@ use Rattle.host_msgs.specs.Items.{long_field, word_field, is_conf, item_in}
 use Rattle.host_msgs.specs.Batches.{item_bytes, item_at, is_in_place, placed, next_in, none_yet, batch_in}
 use Rattle.host_msgs.specs.Contents.{members_content, halt_content, taken_content, commit_content, answer_content, sent_content, refused_content, once, each, batch_bytes}
 use Rattle.host_msgs.specs.Needs.{IsShort, HasBytes, IsWritable}
-use Rattle.host_msgs.specs.Grammar.{IsIndex, IsRefusal}
+use Rattle.host_msgs.specs.Grammar.{IsIndex, IsRefusal, ItemsAreReadAgain}
 use Rattle.host_msgs.specs.Again.{IsMembersItem, IsHaltItem, IsTakenItem, IsCommitItem, IsAnswerItem, IsSentItem, IsInGrammar, sender_of, IsReadAgain}
-use Rattle.host_msgs.proofs.Again.{items_again}
 use Rattle.host_msgs.proofs.Shorts.{short_long, short_word, short_halt, short_point, short_refusal}
 use Rattle.host_msgs.proofs.Walks.{Walked, begins, goes_on, ends}
 
@@ -149,43 +148,43 @@ weaker whole behind kind state r = record { last = r.last; below = omega (arith,
 
 -- what is written of the items of each kind
 
-lead_written : (o : Option ℕ) → IfSome o IsIndex → IfSome o (λ x. IsWritten 1 (long_field.spelled x) (item.Lead x))
-lead_written None is = tt
-lead_written (Some term) is = record { short = short_long term; again = items_again.lead term is }
+lead_written : ItemsAreReadAgain → (o : Option ℕ) → IfSome o IsIndex → IfSome o (λ x. IsWritten 1 (long_field.spelled x) (item.Lead x))
+lead_written items None is = tt
+lead_written items (Some term) is = record { short = short_long term; again = items.lead term is }
 
-halt_written : (o : Option (ℕ × Hash × Hash)) → IfSome o IsHaltItem → IfSome o (λ h. IsWritten 3 (halt_content h) (item.Halt h.0 h.1 h.2))
-halt_written None is = tt
-halt_written (Some (index, kept, offered)) is = record { short = short_halt index kept.0 offered.0 is.1.0 is.1.1; again = items_again.halt index kept offered is.0 is.1.0 is.1.1 }
+halt_written : ItemsAreReadAgain → (o : Option (ℕ × Hash × Hash)) → IfSome o IsHaltItem → IfSome o (λ h. IsWritten 3 (halt_content h) (item.Halt h.0 h.1 h.2))
+halt_written items None is = tt
+halt_written items (Some (index, kept, offered)) is = record { short = short_halt index kept.0 offered.0 is.1.0 is.1.1; again = items.halt index kept offered is.0 is.1.0 is.1.1 }
 
-taken_written : (o : Option Point) → IfSome o IsTakenItem → IfSome o (λ p. IsWritten 4 (taken_content p) (item.Taken p))
-taken_written None is = tt
-taken_written (Some point) is = record { short = short_point point.index point.hash.0 is.1; again = items_again.taken point is.0 is.1 }
+taken_written : ItemsAreReadAgain → (o : Option Point) → IfSome o IsTakenItem → IfSome o (λ p. IsWritten 4 (taken_content p) (item.Taken p))
+taken_written items None is = tt
+taken_written items (Some point) is = record { short = short_point point.index point.hash.0 is.1; again = items.taken point is.0 is.1 }
 
-saved_written : (o : Option ℕ) → IfSome o (IsOfWidth w32) → IfSome o (λ k. IsWritten 8 (word_field.spelled k) (item.Saved k))
-saved_written None is = tt
-saved_written (Some k) is = record { short = short_word k; again = items_again.saved k (omega (arith, is)) }
+saved_written : ItemsAreReadAgain → (o : Option ℕ) → IfSome o (IsOfWidth w32) → IfSome o (λ k. IsWritten 8 (word_field.spelled k) (item.Saved k))
+saved_written items None is = tt
+saved_written items (Some k) is = record { short = short_word k; again = items.saved k (omega (arith, is)) }
 
-refused_written : (o : Option Refusal) → IfSome o IsRefusal → IfSome o (λ r. IsWritten 9 (refused_content r) (item.Refused r))
-refused_written None is = tt
-refused_written (Some why) is = record { short = short_refusal (refusal_numbers why); again = items_again.refused why is }
+refused_written : ItemsAreReadAgain → (o : Option Refusal) → IfSome o IsRefusal → IfSome o (λ r. IsWritten 9 (refused_content r) (item.Refused r))
+refused_written items None is = tt
+refused_written items (Some why) is = record { short = short_refusal (refusal_numbers why); again = items.refused why is }
 
 abbrev Members : ℕ × ℕ × List ℕ → Type 0
 Members m = IsShort (members_content m) × IsMembersItem m
 
-members_written : (m : ℕ × ℕ × List ℕ) → Members m → IsWritten 2 (members_content m) (item.Members m.0 m.1 m.2)
-members_written (index, margin, voters) is = record { short = is.0; again = items_again.members index margin voters is.1.0 is.1.1.0 is.1.1.1.0 is.1.1.1.1 }
+members_written : ItemsAreReadAgain → (m : ℕ × ℕ × List ℕ) → Members m → IsWritten 2 (members_content m) (item.Members m.0 m.1 m.2)
+members_written items (index, margin, voters) is = record { short = is.0; again = items.members index margin voters is.1.0 is.1.1.0 is.1.1.1.0 is.1.1.1.1 }
 
 abbrev Commit : ℕ × LogEntry → Type 0
 Commit c = (HasBytes c.1.body × IsShort (commit_content c)) × IsCommitItem c
 
-commit_written : (c : ℕ × LogEntry) → Commit c → IsWritten 5 (commit_content c) (item.Commit c.0 c.1)
-commit_written (index, entry) is = record { short = is.0.1; again = items_again.commit index entry is.1.0 is.1.1.0 is.1.1.1 }
+commit_written : ItemsAreReadAgain → (c : ℕ × LogEntry) → Commit c → IsWritten 5 (commit_content c) (item.Commit c.0 c.1)
+commit_written items (index, entry) is = record { short = is.0.1; again = items.commit index entry is.1.0 is.1.1.0 is.1.1.1 }
 
 abbrev Told : ClientId × ℕ × Answer → Type 0
 Told a = IsShort (answer_content a) × IsAnswerItem a
 
-answer_written : (a : ClientId × ℕ × Answer) → Told a → IsWritten 6 (answer_content a) (item.Answer a.0 a.1 a.2)
-answer_written (client, n, said) is = record { short = is.0; again = items_again.answer client n said is.1.0 is.1.1.0 is.1.1.1 }
+answer_written : ItemsAreReadAgain → (a : ClientId × ℕ × Answer) → Told a → IsWritten 6 (answer_content a) (item.Answer a.0 a.1 a.2)
+answer_written items (client, n, said) is = record { short = is.0; again = items.answer client n said is.1.0 is.1.1.0 is.1.1.1 }
 
 abbrev Sent : (me : ℕ) → ℕ × PeerMsg → Type 0
 Sent me s = IsInRange s.1 × (IsShort (sent_content me s) × IsSentItem me s)
@@ -193,43 +192,43 @@ Sent me s = IsInRange s.1 × (IsShort (sent_content me s) × IsSentItem me s)
 abbrev sent_item : (me : ℕ) → ℕ × PeerMsg → Item
 sent_item me s = item.Sent me s.0 s.1 (sent_content me s)
 
-sent_written : Messages → (me : ℕ) (s : ℕ × PeerMsg) → Sent me s → IsWritten 7 (sent_content me s) (sent_item me s)
-sent_written messages me (to, message) is =
-    record { short = is.1.0; again = items_again.sent me to message is.1.1.0 is.1.1.1.0 (message_again messages message is.0 is.1.1.1.1) }
+sent_written : ItemsAreReadAgain → Messages → (me : ℕ) (s : ℕ × PeerMsg) → Sent me s → IsWritten 7 (sent_content me s) (sent_item me s)
+sent_written items messages me (to, message) is =
+    record { short = is.1.0; again = items.sent me to message is.1.1.0 is.1.1.1.0 (message_again messages message is.0 is.1.1.1.1) }
 
 -- each kind in its turn
 
-module _ (me : ℕ) (batch : Batch) (w : IsWritable me batch) (g : IsInGrammar me batch) (messages : Messages) (whole : List ℕ) where
+module _ (me : ℕ) (batch : Batch) (w : IsWritable me batch) (g : IsInGrammar me batch) (items : ItemsAreReadAgain) (messages : Messages) (whole : List ℕ) where
   leading : (behind : List ℕ) → Reached whole (once 1 long_field.spelled batch.lead ++ behind) 1 (made me None [] None None [] [] [] None None) → Reached whole behind 2 (made me batch.lead [] None None [] [] [] None None)
-  leading behind r = at_most_one whole behind 1 long_field.spelled item.Lead (λ o. made me o [] None None [] [] [] None None) (omega arith) (λ last. refl) (λ last x. refl) batch.lead (lead_written batch.lead g.lead) r
+  leading behind r = at_most_one whole behind 1 long_field.spelled item.Lead (λ o. made me o [] None None [] [] [] None None) (omega arith) (λ last. refl) (λ last x. refl) batch.lead (lead_written items batch.lead g.lead) r
 
   configured : (behind : List ℕ) → Reached whole (each 2 members_content batch.members ++ behind) 2 (made me batch.lead [] None None [] [] [] None None)
       → Reached whole behind 3 (made me batch.lead batch.members None None [] [] [] None None)
   configured behind r =
       one_for_each whole behind 2 members_content (λ m. item.Members m.0 m.1 m.2) (λ xs. made me batch.lead xs None None [] [] [] None None) (omega arith) (λ xs last. refl) (λ last lt. ranked 2 last refl lt)
-      Members (λ xs x last is. refl) members_written [] batch.members (both_all (λ m. IsShort (members_content m)) IsMembersItem batch.members w.members g.members) (weaker whole _ 2 _ r)
+      Members (λ xs x last is. refl) (members_written items) [] batch.members (both_all (λ m. IsShort (members_content m)) IsMembersItem batch.members w.members g.members) (weaker whole _ 2 _ r)
 
   halted : (behind : List ℕ) → Reached whole (once 3 halt_content batch.halt ++ behind) 3 (made me batch.lead batch.members None None [] [] [] None None)
       → Reached whole behind 4 (made me batch.lead batch.members batch.halt None [] [] [] None None)
   halted behind r =
-      at_most_one whole behind 3 halt_content (λ h. item.Halt h.0 h.1 h.2) (λ o. made me batch.lead batch.members o None [] [] [] None None) (omega arith) (λ last. refl) (λ last x. refl) batch.halt (halt_written batch.halt g.halt) r
+      at_most_one whole behind 3 halt_content (λ h. item.Halt h.0 h.1 h.2) (λ o. made me batch.lead batch.members o None [] [] [] None None) (omega arith) (λ last. refl) (λ last x. refl) batch.halt (halt_written items batch.halt g.halt) r
 
   took : (behind : List ℕ) → Reached whole (once 4 taken_content batch.taken ++ behind) 4 (made me batch.lead batch.members batch.halt None [] [] [] None None)
       → Reached whole behind 5 (made me batch.lead batch.members batch.halt batch.taken [] [] [] None None)
   took behind r =
-      at_most_one whole behind 4 taken_content item.Taken (λ o. made me batch.lead batch.members batch.halt o [] [] [] None None) (omega arith) (λ last. refl) (λ last x. refl) batch.taken (taken_written batch.taken g.taken) r
+      at_most_one whole behind 4 taken_content item.Taken (λ o. made me batch.lead batch.members batch.halt o [] [] [] None None) (omega arith) (λ last. refl) (λ last x. refl) batch.taken (taken_written items batch.taken g.taken) r
 
   committed : (behind : List ℕ) → Reached whole (each 5 commit_content batch.commits ++ behind) 5 (made me batch.lead batch.members batch.halt batch.taken [] [] [] None None)
       → Reached whole behind 6 (made me batch.lead batch.members batch.halt batch.taken batch.commits [] [] None None)
   committed behind r =
       one_for_each whole behind 5 commit_content (λ c. item.Commit c.0 c.1) (λ xs. made me batch.lead batch.members batch.halt batch.taken xs [] [] None None) (omega arith) (λ xs last. refl) (λ last lt. ranked 5 last refl lt)
-      Commit (λ xs x last is. refl) commit_written [] batch.commits (both_all (λ c. HasBytes c.1.body × IsShort (commit_content c)) IsCommitItem batch.commits w.commits g.commits) (weaker whole _ 5 _ r)
+      Commit (λ xs x last is. refl) (commit_written items) [] batch.commits (both_all (λ c. HasBytes c.1.body × IsShort (commit_content c)) IsCommitItem batch.commits w.commits g.commits) (weaker whole _ 5 _ r)
 
   answered : (behind : List ℕ) → Reached whole (each 6 answer_content batch.answers ++ behind) 6 (made me batch.lead batch.members batch.halt batch.taken batch.commits [] [] None None)
       → Reached whole behind 7 (made me batch.lead batch.members batch.halt batch.taken batch.commits batch.answers [] None None)
   answered behind r =
       one_for_each whole behind 6 answer_content (λ a. item.Answer a.0 a.1 a.2) (λ xs. made me batch.lead batch.members batch.halt batch.taken batch.commits xs [] None None) (omega arith) (λ xs last. refl) (λ last lt. ranked 6 last refl lt)
-      Told (λ xs x last is. refl) answer_written [] batch.answers (both_all (λ a. IsShort (answer_content a)) IsAnswerItem batch.answers w.answers g.answers) (weaker whole _ 6 _ r)
+      Told (λ xs x last is. refl) (answer_written items) [] batch.answers (both_all (λ a. IsShort (answer_content a)) IsAnswerItem batch.answers w.answers g.answers) (weaker whole _ 6 _ r)
 
   abbrev sending : List (ℕ × PeerMsg) → ℕ → Gathered
   sending xs = made me batch.lead batch.members batch.halt batch.taken batch.commits batch.answers xs None None
@@ -240,12 +239,12 @@ module _ (me : ℕ) (batch : Batch) (w : IsWritable me batch) (g : IsInGrammar m
   sent_out : (behind : List ℕ) → Reached whole (each 7 (sent_content me) batch.sent ++ behind) 7 (sending []) → Reached whole behind 8 (sending batch.sent)
   sent_out behind r =
       one_for_each whole behind 7 (sent_content me) (sent_item me) sending (omega arith) (λ xs last. refl) (λ last lt. ranked 7 last refl lt)
-      (Sent me) (λ xs x last is. sent_put xs x last) (sent_written messages me) [] batch.sent (both_all (λ s. IsInRange s.1) (λ s. IsShort (sent_content me s) × IsSentItem me s) batch.sent w.messages (both_all (λ s. IsShort (sent_content me s)) (IsSentItem me) batch.sent w.sent g.sent)) (weaker whole _ 7 _ r)
+      (Sent me) (λ xs x last is. sent_put xs x last) (sent_written items messages me) [] batch.sent (both_all (λ s. IsInRange s.1) (λ s. IsShort (sent_content me s) × IsSentItem me s) batch.sent w.messages (both_all (λ s. IsShort (sent_content me s)) (IsSentItem me) batch.sent w.sent g.sent)) (weaker whole _ 7 _ r)
 
   saved_one : (behind : List ℕ) → Reached whole (once 8 word_field.spelled batch.saved ++ behind) 8 (sending batch.sent)
       → Reached whole behind 9 (made me batch.lead batch.members batch.halt batch.taken batch.commits batch.answers batch.sent batch.saved None)
   saved_one behind r =
-      at_most_one whole behind 8 word_field.spelled item.Saved (λ o. made me batch.lead batch.members batch.halt batch.taken batch.commits batch.answers batch.sent o None) (omega arith) (λ last. refl) (λ last x. refl) batch.saved (saved_written batch.saved g.saved) r
+      at_most_one whole behind 8 word_field.spelled item.Saved (λ o. made me batch.lead batch.members batch.halt batch.taken batch.commits batch.answers batch.sent o None) (omega arith) (λ last. refl) (λ last x. refl) batch.saved (saved_written items batch.saved g.saved) r
 
   abbrev all_of : ℕ → Gathered
   all_of = made me batch.lead batch.members batch.halt batch.taken batch.commits batch.answers batch.sent batch.saved batch.refused
@@ -253,7 +252,7 @@ module _ (me : ℕ) (batch : Batch) (w : IsWritable me batch) (g : IsInGrammar m
   refused_one : (behind : List ℕ) → Reached whole (once 9 refused_content batch.refused ++ behind) 9 (made me batch.lead batch.members batch.halt batch.taken batch.commits batch.answers batch.sent batch.saved None)
       → Reached whole behind 10 all_of
   refused_one behind r =
-      at_most_one whole behind 9 refused_content item.Refused (λ o. made me batch.lead batch.members batch.halt batch.taken batch.commits batch.answers batch.sent batch.saved o) (omega arith) (λ last. refl) (λ last x. refl) batch.refused (refused_written batch.refused g.refused) r
+      at_most_one whole behind 9 refused_content item.Refused (λ o. made me batch.lead batch.members batch.halt batch.taken batch.commits batch.answers batch.sent batch.saved o) (omega arith) (λ last. refl) (λ last x. refl) batch.refused (refused_written items batch.refused g.refused) r
 
 in_a_row : (a b c d e f g h i : List ℕ) → (a ++ (b ++ (c ++ d))) ++ ((e ++ (f ++ g)) ++ (h ++ i)) ≡ a ++ (b ++ (c ++ (d ++ (e ++ (f ++ (g ++ (h ++ (i ++ []))))))))
 in_a_row a b c d e f g h i =
@@ -262,8 +261,8 @@ in_a_row a b c d e f g h i =
 read_again : (me : ℕ) (batch : Batch) (read : Result Gathered ℕ) (g : Gathered) → read ≡ Ok g → (g.batch ≡ batch) × (g.sender ≡ sender_of me batch.sent) × (g.frames ≡ map (sent_content me) batch.sent) → IsReadAgain me batch read
 read_again me batch read g e is = subst (IsReadAgain me batch) (sym e) is
 
-pub batches_again : Messages → (me : ℕ) (batch : Batch) → IsWritable me batch → IsInGrammar me batch → IsReadAgain me batch (batch_in (batch_bytes me batch))
-batches_again messages me batch w g =
+pub batches_again : ItemsAreReadAgain → Messages → (me : ℕ) (batch : Batch) → IsWritable me batch → IsInGrammar me batch → IsReadAgain me batch (batch_in (batch_bytes me batch))
+batches_again items messages me batch w g =
     let whole = batch_bytes me batch in
     let b9 = once 9 refused_content batch.refused ++ [] in
     let b8 = once 8 word_field.spelled batch.saved ++ b9 in
@@ -278,13 +277,13 @@ batches_again messages me batch w g =
     in_a_row (once 1 long_field.spelled batch.lead) (each 2 members_content batch.members) (once 3 halt_content batch.halt) (once 4 taken_content batch.taken) (each 5 commit_content batch.commits)
     (each 6 answer_content batch.answers) (each 7 (sent_content me) batch.sent) (once 8 word_field.spelled batch.saved) (once 9 refused_content batch.refused) in
     let r0 : Reached whole b1 1 (made me None [] None None [] [] [] None None) = record { last = 0; below = omega arith; walked = subst (λ bytes. Walked whole bytes none_yet) row (begins whole) } in
-    let r1 = leading me batch w g messages whole b2 r0 in
-    let r2 = configured me batch w g messages whole b3 r1 in
-    let r3 = halted me batch w g messages whole b4 r2 in
-    let r4 = took me batch w g messages whole b5 r3 in
-    let r5 = committed me batch w g messages whole b6 r4 in
-    let r6 = answered me batch w g messages whole b7 r5 in
-    let r7 = sent_out me batch w g messages whole b8 r6 in
-    let r8 = saved_one me batch w g messages whole b9 r7 in
-    let r9 = refused_one me batch w g messages whole [] r8 in
-    read_again me batch (batch_in whole) (all_of me batch w g messages whole r9.last) (ends whole [] (all_of me batch w g messages whole r9.last) r9.walked refl) (refl, refl, refl)
+    let r1 = leading me batch w g items messages whole b2 r0 in
+    let r2 = configured me batch w g items messages whole b3 r1 in
+    let r3 = halted me batch w g items messages whole b4 r2 in
+    let r4 = took me batch w g items messages whole b5 r3 in
+    let r5 = committed me batch w g items messages whole b6 r4 in
+    let r6 = answered me batch w g items messages whole b7 r5 in
+    let r7 = sent_out me batch w g items messages whole b8 r6 in
+    let r8 = saved_one me batch w g items messages whole b9 r7 in
+    let r9 = refused_one me batch w g items messages whole [] r8 in
+    read_again me batch (batch_in whole) (all_of me batch w g items messages whole r9.last) (ends whole [] (all_of me batch w g items messages whole r9.last) r9.walked refl) (refl, refl, refl)

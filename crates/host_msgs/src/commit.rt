@@ -8,8 +8,8 @@ ghost use Rattle.host_msgs.specs.Wrapped.{is_request};
 
 use crate::item::Item;
 use crate::voters::voters;
+use client_msgs::is_canonical_request;
 use fixed_fields::{ShortList, array_at, counted_u32s, end, u8_at, u64_at};
-use group_msgs::is_canonical_request;
 use std::alloc::Global;
 use svr_base::{Body, Bytes, ClientId, LogEntry, Memory, TOP};
 

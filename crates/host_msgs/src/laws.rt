@@ -8,16 +8,20 @@ ghost use Rattle.host_msgs.specs.Contents.{batch_bytes};
 ghost use Rattle.host_msgs.specs.Grammar.{ItemsAreReadAgain};
 ghost use Rattle.host_msgs.specs.Needs.{IsWritable};
 
+use client_msgs::responses_are_read_again;
 use group_msgs::messages_are_read_again;
 
 /// Each item of the grammar is read again from the content that is written of it.
 pub fn items_are_read_again()
     ensures { ItemsAreReadAgain }
-{}
+{
+    responses_are_read_again();
+}
 
 /// A batch whose items are those of the grammar is read again, whole, from the bytes that are written of it.
 pub fn batches_are_read_again()
     ensures { (me : ℕ) (batch : Batch) → IsWritable me batch → IsInGrammar me batch → IsReadAgain me batch (batch_in (batch_bytes me batch)) }
 {
-    messages_are_read_again()
+    items_are_read_again();
+    messages_are_read_again();
 }

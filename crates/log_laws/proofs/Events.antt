@@ -141,7 +141,8 @@ module _ (link : Link) (first : Conf) (w g : World) (k : NoCollisionIn link (Hel
   -- an event of a group that has begun
   pub acts_goes : (e : Event) → Goes link first g (group_after w (happening.acts (enclaves link) e g))
   acts_goes (event.Begin margin limit voters) = stays link first w g k same
-  acts_goes (event.Start x) = unless_goes link first w g k same (is_in g.started x) _ (happening.starts (enclaves link) x) (λ new. starts_goes link first w g k same x new)
+  acts_goes (event.Start zero) = stays link first w g k same
+  acts_goes (event.Start (suc x)) = unless_goes link first w g k same (is_in g.started (suc x)) _ (happening.starts (enclaves link) (suc x)) (λ new. starts_goes link first w g k same (suc x) new)
   acts_goes (event.Tick v) = tells_goes link first w g k same v Tick (λ none. tt)
   acts_goes (event.Deliver j) = delivers_goes j (numbered g.messages j) (mail_at j)
   acts_goes (event.Lose j) = loses_goes link first w g k same j (numbered g.messages j)

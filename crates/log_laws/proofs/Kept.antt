@@ -8,6 +8,7 @@ use Rattle.svr_base.specs.declared.entry.Body.TheVariants.{Members}
 use Rattle.svr_base.specs.declared.event.Event.{Event}
 use Rattle.svr_base.specs.declared.event.Event.TheVariants as event
 use Rattle.group_quorum.specs.Conf.{Conf}
+use Rattle.group_quorum.specs.Sharing.{QuorumsOutlast, CountsOverlap}
 use Rattle.group_quorum.specs.Voters.{conf_of, is_in}
 use Rattle.group_quorum.specs.declared.ConfigFault.{ConfigFault}
 use Rattle.replica_model.specs.Path.{Path, Link}
@@ -127,13 +128,13 @@ pub run_kept : (link : Link) (events : List Event) → NoCollision link (run lin
 run_kept link events none = (events_go link events empty_world (λ no. record { kept = empty_kept link _ [] []; early = λ unset. (refl, refl, refl) })).kept none
 
 -- where nothing has begun there is one log, and else by what is kept
-pub kept_one_log : (link : Link) (w : World) → KeptWorld link w → WithinBound w → IsOneLog w
-kept_one_log link w k bound = by_setup w.setup refl
+kept_one_log : QuorumsOutlast → CountsOverlap → (link : Link) (w : World) → KeptWorld link w → WithinBound w → IsOneLog w
+kept_one_log outlast overlap link w k bound = by_setup w.setup refl
   where
     agreeing : Bears (is_in w.rolled) (setup_of w).first → IsOneLog w
     agreeing bears =
         begin_longest (EachPlacePromised (setup_of w).first (EverIn w.field.history)) (each_nil (setup_of w).first (EverIn w.field.history))
-        (agree_each (setup_of w).first (is_in w.rolled) (EverIn w.field.history)
+        (agree_each outlast overlap (setup_of w).first (is_in w.rolled) (EverIn w.field.history)
         (record {
           shorter = ever_shorter w.field.history;
           one_path = k.kept.one_path;
@@ -148,5 +149,5 @@ kept_one_log link w k bound = by_setup w.setup refl
         let bears : Bears (is_in w.rolled) setup.first = subst (λ o. IfSome o (λ (x : Setup). Bears (is_in w.rolled) x.first)) set bound.first in
         agreeing (subst (λ o. Bears (is_in w.rolled) (unwrap_or {T = Setup} o (record { limit = 0; first = record { margin = 0; voters = [] } })).first) (sym set) bears)
 
-pub one_log_of : (link : Link) (events : List Event) → WithinBound (run link events) → NoCollision link (run link events) → IsOneLog (run link events)
-one_log_of link events bound none = kept_one_log link (run link events) (run_kept link events none) bound
+pub one_log_of : QuorumsOutlast → CountsOverlap → (link : Link) (events : List Event) → WithinBound (run link events) → NoCollision link (run link events) → IsOneLog (run link events)
+one_log_of outlast overlap link events bound none = kept_one_log outlast overlap link (run link events) (run_kept link events none) bound

@@ -4,15 +4,15 @@ pub mod Chain
 pub mod Leading
 pub mod Raising
 pub mod Offered
-pub mod Calls
-pub mod Grafting
+mod Calls
+mod Grafting
 pub mod Ending
-pub mod Electing
-pub mod Hearing
-pub mod Stepping
+mod Electing
+mod Hearing
+mod Stepping
 pub mod History
-pub mod Enclosed
+mod Enclosed
 pub mod Moving
-pub mod Events
-pub mod Kept
-pub mod Samples
+mod Events
+mod Kept
+mod Samples

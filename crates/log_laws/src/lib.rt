@@ -6,8 +6,13 @@
 
 ghost use Rattle.log_laws.specs.OneLog.{RunsHaveOneLog};
 
+use group_quorum::{counts_overlap, quorums_outlast};
+
 /// The law that in every run within the rollback bound and without a collision each committed front of any replica,
-/// after any call, is a front of the run's one log. It does nothing.
+/// after any call, is a front of the run's one log. It only names the laws of quorums.
 pub fn one_log()
     ensures { RunsHaveOneLog }
-{}
+{
+    quorums_outlast();
+    counts_overlap();
+}

@@ -8,5 +8,5 @@ pub mod Choosing
 mod Kept
 mod Recorded
 mod Configurations
-pub mod Lawful
+mod Lawful
 pub mod Goes

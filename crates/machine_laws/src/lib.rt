@@ -1,6 +1,6 @@
 //! What holds of every run of the generous machine of replicas.
 //!
-//! Each law is the contract of a function that does nothing.
+//! Each law is the contract of a function that does nothing, or only names other laws.
 #![tactic(auto)]
 
 ghost use Rattle.halt_machine.specs.Laws.{RunsKeepTheLaws};
@@ -15,12 +15,19 @@ pub fn runs_keep_the_laws()
 ghost use Rattle.halt_machine.specs.Changes.{is_single_change, no_change};
 ghost use Rattle.halt_machine.specs.Laws.{LawsOfRuns};
 
-/// The same laws where one voter at a time is admitted or removed, and margins change at will. It does nothing.
+use halt_machine::single_changes_overlap;
+
+/// The same laws where one voter at a time is admitted or removed, and margins change at will. It only names those laws.
 pub fn laws_by_single_changes()
     ensures { LawsOfRuns is_single_change }
-{}
+{
+    runs_keep_the_laws();
+    single_changes_overlap();
+}
 
-/// The same laws where the configuration stays as it was. It does nothing.
+/// The same laws where the configuration stays as it was. It only names those laws.
 pub fn laws_in_one_configuration()
     ensures { LawsOfRuns no_change }
-{}
+{
+    runs_keep_the_laws();
+}

@@ -119,7 +119,8 @@ module _ (link : Link) (limit : ℕ) (w g : World) (k : FairRun limit g.messages
   -- an event of a group that has begun
   acts_goes : (e : Event) → Goes limit g (group_after w (happening.acts (enclaves link) e g))
   acts_goes (event.Begin margin limit' voters) = stays link limit w g k same
-  acts_goes (event.Start x) = unless_goes link limit w g k same (is_in g.started x) _ (happening.starts (enclaves link) x) (starts_goes link limit w g k same x)
+  acts_goes (event.Start zero) = stays link limit w g k same
+  acts_goes (event.Start (suc x)) = unless_goes link limit w g k same (is_in g.started (suc x)) _ (happening.starts (enclaves link) (suc x)) (starts_goes link limit w g k same (suc x))
   acts_goes (event.Tick v) = tells_goes link limit w g k same v Tick tt
   acts_goes (event.Deliver j) = delivers_goes j (numbered g.messages j) (mail_at j)
   acts_goes (event.Lose j) = loses_goes link limit w g k same j (numbered g.messages j)

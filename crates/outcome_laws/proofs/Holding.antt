@@ -25,10 +25,9 @@ use Rattle.replica_model.specs.Folds.{ask_of}
 use Rattle.group_model.specs.Run.{Recorded, World, run}
 use Rattle.group_model.specs.Log.{IsFrontOf, state_of, committed_path, log_of, Outcome, outcome_in, outcomes_in, WithinBound, NoCollision}
 use Rattle.group_model.specs.Laws.{limit_of, log_places, IsAskAt, OutcomeHolds, DataHolds, OneLogLaws}
-use Rattle.log_laws.specs.OneLog.{IsOneLog}
+use Rattle.log_laws.specs.OneLog.{IsOneLog, RunsHaveOneLog}
 use Rattle.log_laws.proofs.Ending.{all-append}
 use Rattle.log_laws.proofs.History.{all_more}
-use Rattle.log_laws.proofs.Kept.{one_log_of}
 use Rattle.outcome_laws.proofs.Places.{valid_places, entry_of_front, entry_fits, reply_of_front, ask_of_entry}
 use Rattle.outcome_laws.proofs.Recorded.{OutcomeKept, AnswerKept}
 use Rattle.outcome_laws.proofs.Moved.{OutcomesKept}
@@ -101,5 +100,5 @@ module _ (laws : TableLaws) (w : World) where
         data_earned = all_more (OutcomeHolds w) (DataHolds w) data_holds (outcomes_in w.field.history) outcomes;
       }
 
-pub one_log_laws_of : TableLaws → (link : Link) (events : List Event) → WithinBound (run link events) → NoCollision link (run link events) → OneLogLaws (run link events)
-one_log_laws_of laws link events bound none = laws_hold laws (run link events) (one_log_of link events bound none) (run_fair link events)
+pub one_log_laws_of : RunsHaveOneLog → TableLaws → (link : Link) (events : List Event) → WithinBound (run link events) → NoCollision link (run link events) → OneLogLaws (run link events)
+one_log_laws_of one_log laws link events bound none = laws_hold laws (run link events) (one_log link events bound none) (run_fair link events)

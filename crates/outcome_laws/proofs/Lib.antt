@@ -1,9 +1,9 @@
 pub mod Places
-pub mod Tickets
-pub mod Raised
-pub mod Rules
-pub mod Stepped
-pub mod Recorded
-pub mod Moved
-pub mod Events
-pub mod Holding
+mod Tickets
+mod Raised
+mod Rules
+mod Stepped
+mod Recorded
+mod Moved
+mod Events
+mod Holding

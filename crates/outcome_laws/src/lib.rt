@@ -6,6 +6,7 @@
 
 ghost use Rattle.group_model.specs.Laws.{OneLog};
 
+use log_laws::one_log;
 use record_table::{data_is_earned, guesses_end, numbers_rise};
 
 /// The law that in every run within the rollback bound and without a collision there is one log, each outcome is that
@@ -14,6 +15,7 @@ use record_table::{data_is_earned, guesses_end, numbers_rise};
 pub fn one_log_laws()
     ensures { OneLog }
 {
+    one_log();
     numbers_rise();
     guesses_end();
     data_is_earned();

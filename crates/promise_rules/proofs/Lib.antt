@@ -1,5 +1,3 @@
 mod Upto
-mod Reaching
-mod Segments
 mod Stretch
 mod Standing

@@ -12,8 +12,7 @@ use Rattle.replica_model.specs.Replica.{Replica, Leading}
 use Rattle.replica_model.specs.Raise.{accepted_mark, promised_mark, may_promise, may_commit, promise_index, commit_index}
 use Rattle.replica_log.specs.declared.configs.Configs.{Configs}
 use Rattle.replica_log.specs.Window.{Window, IsOrdered, last_index, configs_at}
-use Rattle.replica_log.specs.Models.{StandsFor, SameIndices, AreConfigs}
-use Rattle.replica_log.proofs.Standing.{indices_same, configs_model, term_at_model}
+use Rattle.replica_log.specs.Models.{StandsFor, SameIndices, AreConfigs, IndicesAreTheModels, TermsAreTheModels, ConfigsAreTheModels}
 use Rattle.promise_rules.specs.Raising.{enough_by, is_term, is_of_term, passes, promised_by, committed_by}
 
 -- tests that agree above `had` and up to `top` have the same greatest number
@@ -23,12 +22,13 @@ same_above p q had (suc n) same =
     ap (λ b. cond b (had + suc n) (greatest_above p had n)) (same (had + suc n) (omega arith) (omega arith))
     ∙ ap (λ m. cond (q (had + suc n)) (had + suc n) m) (same_above p q had n (λ k low high. same k low (omega (arith, high))))
 
-pub same_greatest : (p q : ℕ → Bool) (had top : ℕ) → ((k : ℕ) → had < k → k ≤ top → p k ≡ q k) → greatest_upto p had top ≡ greatest_upto q had top
+same_greatest : (p q : ℕ → Bool) (had top : ℕ) → ((k : ℕ) → had < k → k ≤ top → p k ≡ q k) → greatest_upto p had top ≡ greatest_upto q had top
 same_greatest p q had top same = same_above p q had (top - had) (λ k low high. same k low (omega (arith, low, high)))
 
-module _ (link : Link) (w : Window) (s : Replica) (stands : StandsFor link w s) (ordered : IsOrdered w) where
+module _ (indices_are : IndicesAreTheModels) (terms_are : TermsAreTheModels) (configs_are : ConfigsAreTheModels)
+    (link : Link) (w : Window) (ordered : IsOrdered w) (s : Replica) (stands : StandsFor link w s) where
   indices : SameIndices w s
-  indices = indices_same link w s stands
+  indices = indices_are link w s stands
 
   low : s.base ≤ s.committed
   low = let b = indices.base in let c = indices.committed in let o = ordered.committed in omega (arith, b, c, o)
@@ -38,19 +38,18 @@ module _ (link : Link) (w : Window) (s : Replica) (stands : StandsFor link w s) 
     base_le = omega (arith, low, above)
 
     are : AreConfigs s i (configs_at w i)
-    are = configs_model link w s stands i base_le low
+    are = configs_are link w ordered s stands i base_le
 
     count : length (take i s.path) ≡ i
     count = length-take-le i s.path within
 
-    pub term_same : (term : ℕ) → s.term ≡ term → is_of_term w (Some term) i ≡ (model_term_at s.path i == s.term)
-    term_same term is =
-        ap (is_term term) (
-        term_at_model link w s stands i
+    term_same : is_of_term w (Some s.term) i ≡ (model_term_at s.path i == s.term)
+    term_same =
+        ap (is_term s.term) (
+        terms_are link w s stands i
         ∙ cond-true (nat_le s.base i && nat_le i (length s.path)) (Some (model_term_at s.path i)) None
         (and_from (nat_le s.base i) (nat_le i (length s.path)) (le-leb s.base i base_le) (le-leb i (length s.path) within))
         )
-        ∙ ap (λ t. model_term_at s.path i == t) (sym is)
 
     -- the older configuration counts only while the newest is above the committed index
     settled : (mark : ℕ → ℕ) (b : Bool) → nat_le (configs_at w i).newest_index w.committed ≡ b
@@ -74,20 +73,19 @@ module _ (link : Link) (w : Window) (s : Replica) (stands : StandsFor link w s) 
         ∙ ap (λ n. nat_le (conf_index r) n || met (older_conf s.first r) (λ v. nat_le (conf_index r) (mark v))) indices.committed
         )
 
-    pub enough_model : (mark other : ℕ → ℕ) → ((v : ℕ) → mark v ≡ other v) → enough_by (configs_at w i) w.committed mark i ≡ is_enough s.first s.path i other s.committed
+    enough_model : (mark other : ℕ → ℕ) → ((v : ℕ) → mark v ≡ other v) → enough_by (configs_at w i) w.committed mark i ≡ is_enough s.first s.path i other s.committed
     enough_model mark other same =
         let m : mark ≡ other = λ j v. same v j in
         enough_same mark ∙ ap (λ (f : ℕ → ℕ). is_enough s.first s.path i f s.committed) m
 
   -- the promised index
-  pub promise_model : (l : Leading) (term : ℕ) (marks : List (ℕ × ℕ)) → s.term ≡ term → ((v : ℕ) → mark_of marks v ≡ accepted_mark s l v)
-      → promised_by w term marks ≡ promise_index s l
-  promise_model l term marks is same =
-      ap (λ n. greatest_upto (passes w (Some term) (mark_of marks)) n (last_index w)) indices.promised
-      ∙ ap (greatest_upto (passes w (Some term) (mark_of marks)) s.promised) indices.last
-      ∙ same_greatest (passes w (Some term) (mark_of marks)) (may_promise s l) s.promised (length s.path) (λ i above within.
+  pub promise_model : (l : Leading) (marks : List (ℕ × ℕ)) → ((v : ℕ) → mark_of marks v ≡ accepted_mark s l v) → promised_by w s.term marks ≡ promise_index s l
+  promise_model l marks same =
+      ap (λ n. greatest_upto (passes w (Some s.term) (mark_of marks)) n (last_index w)) indices.promised
+      ∙ ap (greatest_upto (passes w (Some s.term) (mark_of marks)) s.promised) indices.last
+      ∙ same_greatest (passes w (Some s.term) (mark_of marks)) (may_promise s l) s.promised (length s.path) (λ i above within.
       let over : s.committed < i = (let p = indices.promised in let c = indices.committed in let o = ordered.promised in omega (arith, p, c, o, above)) in
-      ap (λ b. b && enough_by (configs_at w i) w.committed (mark_of marks) i) (term_same i over within term is)
+      ap (λ b. b && enough_by (configs_at w i) w.committed (mark_of marks) i) (term_same i over within)
       ∙ ap (λ b. (model_term_at s.path i == s.term) && b) (enough_model i over within (mark_of marks) (accepted_mark s l) same))
 
   -- the committed index

@@ -4,7 +4,6 @@ use Rattle.std.specs.Prelude.{◌&&◌, nat_le}
 use Rattle.std.proofs.lemmas.Bool.{cases_lt, le-leb, lt-leb}
 use Rattle.replica_model.specs.Enough.{greatest_above, greatest_upto}
 use Rattle.replica_model.specs.Laws.{IsGreatest}
-use Rattle.replica_model.proofs.Greatest.{greatest}
 
 and_false : (b : Bool) → (b && false) ≡ false
 and_false true = refl
@@ -52,14 +51,8 @@ module _ (passes : ℕ → Bool) (had : ℕ) where
       ap (greatest_upto passes had) (sym e) ∙ skip_by (top - m) m low (λ k above below. none k above (omega (arith, below, le)))
 
 -- a stretch in which a test passes up to an index and where another one does
-module _ (passes of : ℕ → Bool) (had below top reach : ℕ) (low : had ≤ below) (less : below < top)
-    (same : (k : ℕ) → below < k → k ≤ top → passes k ≡ (of k && nat_le k reach)) where
-  abbrev found : ℕ
-  found = greatest_upto of below (min reach top)
-
-  is : IsGreatest of below (min reach top) found
-  is = greatest of below (min reach top)
-
+module _ (passes of : ℕ → Bool) (had below top reach found : ℕ) (low : had ≤ below) (less : below < top)
+    (same : (k : ℕ) → below < k → k ≤ top → passes k ≡ (of k && nat_le k reach)) (is : IsGreatest of below (min reach top) found) where
   none_after : (k : ℕ) → found < k → k ≤ top → passes k ≡ false
   none_after k above within =
       let least = is.at_least in

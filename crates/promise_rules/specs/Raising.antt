@@ -1,10 +1,14 @@
 -- How far a log is promised and committed by the marks of its voters.
-use Rattle.std.specs.Prelude.{ℕ, Bool, true, false, ◌&&◌, ◌||◌, ◌==◌, nat_le, List, Option, Some, None}
+use Rattle.std.specs.Prelude.{◌≡◌, ℕ, Bool, true, false, ◌&&◌, ◌||◌, ◌==◌, nat_le, List, Option, Some, None}
 use Rattle.group_quorum.specs.Conf.{met}
 use Rattle.group_quorum.specs.Marks.{mark_of}
+use Rattle.replica_model.specs.Path.{Link}
 use Rattle.replica_model.specs.Enough.{greatest_upto}
+use Rattle.replica_model.specs.Replica.{Leading}
+use Rattle.replica_model.specs.Raise.{accepted_mark, promised_mark, promise_index, commit_index}
 use Rattle.replica_log.specs.declared.configs.Configs.{Configs}
-use Rattle.replica_log.specs.Window.{Window, last_index, term_at, configs_at}
+use Rattle.replica_log.specs.Window.{Window, IsOrdered, last_index, term_at, configs_at}
+use Rattle.replica_log.specs.Models.{OfEach}
 
 -- the newest configuration is committed, or a quorum of the one before it has marks of at least the newest one's index
 abbrev pub is_settled_by : Configs → ℕ → (ℕ → ℕ) → Bool
@@ -41,3 +45,13 @@ promised_by w term marks = greatest_upto (passes w (Some term) (mark_of marks)) 
 -- the committed index after the marks of what was promised: the greatest up to the promised one, or what it was
 abbrev pub committed_by : Window → List (ℕ × ℕ) → ℕ
 committed_by w promises = greatest_upto (passes w None (mark_of promises)) w.committed w.promised
+
+-- where a log's indices are in order, the promised index that a leader's marks make is the model's
+abbrev pub PromisesAreTheModels : Type 0
+PromisesAreTheModels = (link : Link) (w : Window) → IsOrdered w → OfEach link w (λ s. (l : Leading) (marks : List (ℕ × ℕ))
+    → ((v : ℕ) → mark_of marks v ≡ accepted_mark s l v) → promised_by w s.term marks ≡ promise_index s l)
+
+-- and so is the committed index that the promises make
+abbrev pub CommitsAreTheModels : Type 0
+CommitsAreTheModels = (link : Link) (w : Window) → IsOrdered w → OfEach link w (λ s. (l : Leading) (promises : List (ℕ × ℕ))
+    → ((v : ℕ) → mark_of promises v ≡ promised_mark s l v) → committed_by w promises ≡ commit_index s l)

@@ -2,6 +2,7 @@
 ghost use Rattle.std.specs.Prelude.{◌≡◌, ℕ, ◌≤◌, ◌<◌, max, nat_le, IfOk, IfErr};
 ghost use Rattle.group_quorum.specs.Marks.{mark_of};
 ghost use Rattle.replica_model.specs.Enough.{greatest_upto};
+ghost use Rattle.replica_model.specs.Laws.{IsGreatest};
 ghost use Rattle.replica_log.specs.Window.{base_index, last_index};
 ghost use Rattle.promise_rules.specs.Raising.{enough_by, is_settled_by, is_of_term as is_of_term_at, passes};
 
@@ -80,7 +81,7 @@ fn is_settled(configs: &Configs, committed: u64, marks: &[(u32, u64)]) -> bool
 
 /// The greatest index above `had` and up to `top` with an entry of the term, or `had`.
 fn last_of_term(log: &Log, term: Option<u64>, had: u64, top: u64) -> u64
-    ensures { result ≡ greatest_upto (is_of_term_at log.now term) had top }
+    ensures { IsGreatest (is_of_term_at log.now term) had top result }
 {
     let mut index = top;
     while index > had {

@@ -6,10 +6,10 @@ ghost use Rattle.replica_model.specs.Replica.{Leading};
 ghost use Rattle.replica_model.specs.Raise.{accepted_mark, promised_mark, promise_index, commit_index};
 ghost use Rattle.replica_log.specs.Window.{promised_to, committed_to};
 ghost use Rattle.replica_log.specs.Models.{OfEach, StandsFor};
-ghost use Rattle.promise_rules.specs.Raising.{promised_by, committed_by};
+ghost use Rattle.promise_rules.specs.Raising.{promised_by, committed_by, PromisesAreTheModels, CommitsAreTheModels};
 
 use crate::greatest::greatest_enough;
-use replica_log::Log;
+use replica_log::{Log, configs_are_the_models, indices_are_the_models, terms_are_the_models};
 
 /// Raises the promised index to the greatest index of an entry of the leader's term for which the voters' marks are
 /// enough, where that is higher, and answers whether it rose. A mark says up to where a voter has accepted the log; the
@@ -21,6 +21,7 @@ pub fn raise_promise(log: &mut Log, term: u64, marks: &[(u32, u64)]) -> bool
         → ((v : ℕ) → mark_of marks.now v ≡ accepted_mark s l v)
         → StandsFor sha_link log.new (record s { promised = promise_index s l })) }
 {
+    indices_by_marks_are_the_models();
     let had = log.promised();
     let index = greatest_enough(log, Some(term), marks, had, log.last().index);
     log.promise_to(index);
@@ -37,8 +38,20 @@ pub fn raise_commit(log: &mut Log, promises: &[(u32, u64)]) -> bool
         → ((v : ℕ) → mark_of promises.now v ≡ promised_mark s l v)
         → StandsFor sha_link log.new (record s { committed = commit_index s l })) }
 {
+    indices_by_marks_are_the_models();
     let had = log.committed();
     let index = greatest_enough(log, None, promises, had, log.promised());
     log.commit_to(index);
     index > had
+}
+
+/// The law that the indices which marks make of a log are those of each model replica for which it stands. It only names
+/// the laws of the log.
+fn indices_by_marks_are_the_models()
+    ensures promised { PromisesAreTheModels }
+    ensures committed { CommitsAreTheModels }
+{
+    indices_are_the_models();
+    terms_are_the_models();
+    configs_are_the_models();
 }

@@ -159,6 +159,13 @@ conf_index_from-cases j k (e ∷ p) le = elim (cases_Bool (is_members e.body)) [
       ]
 ]
 
+-- where it is not above the k-th entry none of those after it is a Members entry
+pub conf_index_from-still : (j k : ℕ) (p : Path) → j ≤ k → conf_index_from j k p ≤ k → conf_index_from j k p ≡ j
+conf_index_from-still j k p le low = elim (conf_index_from-cases j k p le) [
+  | inl still ↦ still
+  | inr above ↦ absurd (omega (arith, low, above))
+]
+
 changed_plain : (c : Conf) (b : Body) → is_members b ≡ false → changed_by c b ≡ c
 changed_plain c Noop h = refl
 changed_plain c (Ask client number request) h = refl

@@ -1,6 +1,7 @@
-pub mod Chains
-pub mod Standing
-pub mod Splicing
-pub mod Grafts
-pub mod Answering
+mod Chains
+mod Standing
+mod Splicing
+mod Segments
+mod Grafts
+mod Answering
 mod Worked

@@ -12,7 +12,7 @@ use Rattle.replica_model.specs.Replica.{Replica}
 use Rattle.replica_model.specs.Graft.{hash_at as model_hash_at}
 use Rattle.replica_model.proofs.Paths.{chain-append, conf-append, conf_index-append}
 use Rattle.replica_log.proofs.Chains.{conf_index_from-bound}
-use Rattle.replica_log.specs.Window.{Summary, summary_of, summed, summary_at, term_from, Window, base_index, last_index, last_point, last_term_of, upto, kept_at, hash_at, term_at, entry_at, conf_at, conf_index_at, older_conf_at, configs_at, pushed, dropped_below}
+use Rattle.replica_log.specs.Window.{Summary, summary_of, summed, summary_at, term_from, Window, IsOrdered, base_index, last_index, last_point, last_term_of, upto, kept_at, hash_at, term_at, entry_at, conf_at, conf_index_at, older_conf_at, configs_at, pushed, dropped_below}
 use Rattle.replica_log.specs.Models.{KeepsPath, StandsFor, SameIndices, kept_by, AreConfigs}
 
 take_nothing : {A : Type 0} (n : ℕ) → take {A = A} n [] ≡ []
@@ -203,3 +203,12 @@ module _ (link : Link) where
 
 pub indices_same : (link : Link) (w : Window) (s : Replica) → StandsFor link w s → SameIndices w s
 indices_same link w s h = indices link w s h
+
+-- the base is not above what is committed, so the older configuration is told where it counts
+pub configs_same : (link : Link) (w : Window) → IsOrdered w → (s : Replica) → StandsFor link w s → (i : ℕ) → s.base ≤ i → AreConfigs s i (configs_at w i)
+configs_same link w ordered s h i le =
+    let same = indices link w s h in
+    let base : base_index w ≡ s.base = same.base in
+    let committed : w.committed ≡ s.committed = same.committed in
+    let low = ordered.committed in
+    configs_model link w s h i le (omega (arith, base, committed, low))

@@ -2,14 +2,14 @@
 use Rattle.std.specs.Prelude.{◌≡◌, ℕ, ◌≤◌, ◌<◌, cond, ◌&&◌, nat_le, Option, Some, None, ◌++◌, length, take, drop}
 use Rattle.svr_base.specs.declared.entry.Point.{Point}
 use Rattle.group_quorum.specs.Conf.{Conf}
-use Rattle.replica_model.specs.Path.{Path, Link, point}
+use Rattle.replica_model.specs.Path.{Path, Link, point, term_at as model_term_at}
 use Rattle.replica_model.specs.Configs.{conf, conf_index, older_conf}
 use Rattle.replica_model.specs.Replica.{Replica}
 use Rattle.replica_model.specs.Graft.{Offer, Difference, first_difference, points_of, end_of, kept_length, added, refusal_hint}
 use Rattle.replica_log.specs.declared.configs.Configs.{Configs}
 use Rattle.replica_log.specs.declared.graft.Graft.{Graft}
 use Rattle.replica_log.specs.declared.graft.Graft.TheVariants.{Grafted, Apart, Conflict}
-use Rattle.replica_log.specs.Window.{Window, Summary, summary_of, base_index, last_index}
+use Rattle.replica_log.specs.Window.{Window, Summary, summary_of, IsOrdered, base_index, last_index, term_at, configs_at}
 
 -- the window keeps of this path what follows the base, and the summary up to it
 pub record KeepsPath (link : Link) (w : Window) (first : Conf) (p : Path) (base promised committed : ℕ) : Type 0 where
@@ -29,10 +29,6 @@ pub record SameIndices (w : Window) (s : Replica) : Type 0 where
   pub last : last_index w ≡ length s.path
   pub promised : w.promised ≡ s.promised
   pub committed : w.committed ≡ s.committed
-
--- so of each window and replica
-abbrev pub IndicesAreTheModels : Type 0
-IndicesAreTheModels = (link : Link) (w : Window) (s : Replica) → StandsFor link w s → SameIndices w s
 
 -- the fact holds of each model replica for whose log the window stands
 abbrev pub OfEach : Link → Window → (Replica → Type 0) → Type 0
@@ -54,6 +50,18 @@ pub record AreConfigs (s : Replica) (i : ℕ) (c : Configs) : Type 0 where
   pub newest : c.newest ≡ conf s.first (take i s.path)
   pub newest_index : c.newest_index ≡ conf_index (take i s.path)
   pub older : s.committed < c.newest_index → c.older ≡ older_conf s.first (take i s.path)
+
+-- of each window the indices are those of each replica for whose log it stands
+abbrev pub IndicesAreTheModels : Type 0
+IndicesAreTheModels = (link : Link) (w : Window) → OfEach link w (SameIndices w)
+
+-- so is the term at each index
+abbrev pub TermsAreTheModels : Type 0
+TermsAreTheModels = (link : Link) (w : Window) → OfEach link w (λ s. (i : ℕ) → term_at w i ≡ kept_by s i (model_term_at s.path i))
+
+-- and so are the configurations at each index from the base on
+abbrev pub ConfigsAreTheModels : Type 0
+ConfigsAreTheModels = (link : Link) (w : Window) → IsOrdered w → OfEach link w (λ s. (i : ℕ) → s.base ≤ i → AreConfigs s i (configs_at w i))
 
 -- the replica's path after an offer that is grafted onto it
 abbrev pub with_graft : Replica → Option Difference → Offer → Replica

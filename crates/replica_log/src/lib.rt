@@ -5,21 +5,16 @@
 //! whole path, and each call's clause `model` says what the call is to each such replica.
 #![tactic(auto)]
 
-ghost use Rattle.replica_log.specs.Models.{IndicesAreTheModels};
-
 mod chained;
 mod configs;
 mod graft;
+mod laws;
 mod log;
 
 pub use configs::Configs;
 pub use graft::Graft;
+pub use laws::{configs_are_the_models, indices_are_the_models, terms_are_the_models};
 pub use log::Log;
-
-/// The law that the indices of a log are those of each model replica for which it stands. It does nothing.
-pub fn indices_are_the_models()
-    ensures { IndicesAreTheModels }
-{}
 
 #[cfg(test)]
 mod tests;

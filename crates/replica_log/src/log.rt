@@ -199,12 +199,14 @@ impl Log {
         }
     }
 
-    /// The configurations of the entries up to an index from base to last.
+    /// The configurations of the entries up to an index from base to last. They are the same up to each index between
+    /// the newest one's and this one.
     pub fn configs_to(&self, index: u64) -> Configs
         requires base { base_index self.now ≤ index }
         requires last { index ≤ last_index self.now }
         ensures configs { result ≡ configs_at self.now index }
         ensures within { result.newest_index ≤ index }
+        ensures stay { (i : ℕ) → base_index self.now ≤ i → result.newest_index ≤ i → i ≤ index → configs_at self.now i ≡ result }
         ensures model { OfEach sha_link self.now (λ s. AreConfigs s index result) }
     {
         let newest_index = self.conf_index_of(index);

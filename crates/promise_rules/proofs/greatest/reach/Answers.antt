@@ -2,7 +2,6 @@ use Rattle.std.proofs.Common.{◌≡◌, ◌&&◌, Bool, true, false, refl, ap, 
 use Rattle.std.specs.Prelude.{nat_le}
 use Rattle.group_quorum.specs.Conf.{met}
 use Rattle.group_quorum.specs.Marks.{mark_of}
-use Rattle.promise_rules.proofs.Reaching.{met_reach}
 use Rattle.promise_rules.proofs.greatest.reach.Goals as goal
 
 and_true : (b : Bool) → (b && true) ≡ b
@@ -15,4 +14,4 @@ returns c = λ i low.
     let marks = c.args.marks.now in
     let here : Bool = met k.newest (λ v. nat_le i (mark_of marks v)) in
     ap (λ b. here && b) (sym c.is_settled.ensures ∙ c.if-not-is_settled.false) ∙ and_true here
-    ∙ met_reach k.newest marks c.greatest_met.result c.greatest_met.ensures.greatest i
+    ∙ c.greatest_met.ensures.reached i

@@ -6,7 +6,6 @@ use Rattle.replica_model.specs.Enough.{greatest_upto}
 use Rattle.replica_log.specs.Window.{Window}
 use Rattle.replica_log.specs.Models.{StandsFor}
 use Rattle.promise_rules.specs.Raising.{passes}
-use Rattle.promise_rules.proofs.Standing.{commit_model}
 use Rattle.promise_rules.proofs.raise.raise_commit.Goals as goal
 
 pub returns-clause-model : goal.returns-clause-model
@@ -20,5 +19,5 @@ returns-clause-model c = λ s stands l same.
     let least : w.committed ≤ index = subst (λ n. n ≤ index) had c.greatest_enough-index.ensures.least in
     let higher : max s.committed index ≡ index = (let p = stands.is_committed in omega (arith, p, least)) in
     subst (λ n. StandsFor sha_link c.commit_to.new.self (record s { committed = n }))
-    (higher ∙ greatest ∙ commit_model sha_link w s stands c.committed-had.ensures.ordered l c.args.promises.now same)
+    (higher ∙ greatest ∙ c.indices_by_marks_are_the_models.ensures.committed sha_link w c.committed-had.ensures.ordered s stands l c.args.promises.now same)
     (c.commit_to.ensures.model s stands)
