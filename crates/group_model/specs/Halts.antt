@@ -3,8 +3,6 @@ use Rattle.std.specs.Prelude.{◌≡◌, ℕ, ◌<◌, ◌⊎◌, List, [], ◌�
 use Rattle.std.specs.List.{AllByRecursion}
 use Rattle.svr_base.specs.declared.entry.LogEntry.{LogEntry}
 use Rattle.svr_base.specs.declared.event.Event.{Event}
-use Rattle.svr_base.specs.declared.event.Event.TheVariants as event
-use Rattle.group_quorum.specs.Voters.{IsId}
 use Rattle.replica_model.specs.Path.{Path, Link}
 use Rattle.replica_model.specs.Raise.{may_promise}
 use Rattle.replica_model.specs.Replica.{Replica, Role, Learner, Follower, Candidate, Leader}
@@ -63,13 +61,7 @@ pub record HaltLaws (w : World) : Type 0 where
   pub no_halt : AllByRecursion (λ r. (state_of r).halted ≡ None) w.field.history
   pub no_halt_told : AllByRecursion (λ (r : Recorded). r.call.batch.halt ≡ None) w.field.history
 
--- what starts has an id, as each record says it: 0 stands for no replica, and a vote for 0 is none
-abbrev pub StartsAnId : Event → Type 0
-StartsAnId (event.Start r) = IsId r
-StartsAnId e = Unit {0}
-
 -- the promise, across changes of voters and margin, and of learners
 abbrev pub NoHalt : Type 0
 NoHalt =
-    (link : Link) (events : List Event) → AllByRecursion StartsAnId events → (run link events).rolled ≡ [] → NoCollision link (run link events)
-    → HaltLaws (run link events)
+    (link : Link) (events : List Event) → (run link events).rolled ≡ [] → NoCollision link (run link events) → HaltLaws (run link events)

@@ -1,5 +1,5 @@
 -- What each event does to a group, with its refusals in their order.
-use Rattle.std.specs.Prelude.{ℕ, nat_le, not, Bool, true, false, if◌then◌else◌, List, [], ◌∷◌, Option, Some, None, is_none, unwrap_or, Result, Ok, Err}
+use Rattle.std.specs.Prelude.{ℕ, zero, suc, nat_le, not, Bool, true, false, if◌then◌else◌, List, [], ◌∷◌, Option, Some, None, is_none, unwrap_or, Result, Ok, Err}
 use Rattle.group_quorum.specs.Conf.{Conf}
 use Rattle.group_quorum.specs.Voters.{conf_of, insert_rising, is_in}
 use Rattle.group_quorum.specs.declared.ConfigFault.{ConfigFault}
@@ -82,6 +82,11 @@ module _ {M F : Type 0} (field : Field M F) where
       connected x g.running (field.start g.field (Learn x g.running))
       (λ f. Happened Passed (record g { running = insert_rising x g.running; started = x ∷ g.started; field = f }))
 
+  -- an id starts once. 0 stands for no replica, so it starts nothing
+  abbrev pub starts_new : ℕ → Group M F → Happening M F
+  starts_new zero g = Happened Passed g
+  starts_new (suc k) g = unless (is_in g.started (suc k)) (AlreadyStarted (suc k)) g (starts (suc k))
+
   abbrev pub hands : ℕ → Sent M → Group M F → Happening M F
   hands k m g = calls m.to (Peer m.from m.to m.message) (record g { waiting = but k g.waiting })
 
@@ -150,7 +155,7 @@ module _ {M F : Type 0} (field : Field M F) where
   -- an event of a group that has begun. A schedule has no second begin, and `settle` and `again` are no events
   abbrev pub acts : Event → Group M F → Happening M F
   acts (event.Begin margin limit voters) g = Happened Passed g
-  acts (event.Start r) g = unless (is_in g.started r) (AlreadyStarted r) g (starts r)
+  acts (event.Start r) g = starts_new r g
   acts (event.Tick r) g = tells r Tick g
   acts (event.Deliver k) g = delivers k (numbered g.messages k) g
   acts (event.Lose k) g = loses k (numbered g.messages k) g

@@ -23,7 +23,6 @@ use Rattle.group_model.specs.Group.{Setup, Sent, Answered, numbered, but, core_o
 use Rattle.group_model.specs.Happens as happening
 use Rattle.group_model.specs.Happens.{Happening, Happened, Broken, Unanswered, happens}
 use Rattle.group_model.specs.Run.{Recorded, Enclaves, World, moves, newly, start_enclave, replies, call_enclave, enclaves, group_after}
-use Rattle.group_model.specs.Halts.{StartsAnId}
 use Rattle.log_laws.proofs.Chain.{NoCollisionIn}
 use Rattle.log_laws.proofs.History.{with_call, HeldIn, held_shorter, none_larger}
 use Rattle.log_laws.proofs.Moving.{all_get}
@@ -213,24 +212,24 @@ module _ (link : Link) (first : Conf) (rises : is_rising first.voters ≡ true) 
   mail_at (suc j) m is s = all_get (MailFits link first g.field.history s.machine.history.messages) g.messages j m is s.mail
 
   -- an event of a group that has begun
-  pub acts_goes : (e : Event) → StartsAnId e → Goes link first holds g (group_after w (happening.acts (enclaves link) e g))
-  acts_goes (event.Begin margin limit voters) id = stays link first rises holds w g k same
-  acts_goes (event.Start x) id =
-      let one = id.0 in
-      unless_goes link first rises holds w g k same (is_in g.started x) _ (happening.starts (enclaves link) x) (λ new. starts_goes link first rises holds w g k same x (omega arith) new)
-  acts_goes (event.Tick v) id = tells_goes link first rises holds w g k same v Tick (λ s. tt)
-  acts_goes (event.Deliver j) id = delivers_goes j (numbered g.messages j) (mail_at j)
-  acts_goes (event.Lose j) id = loses_goes link first rises holds w g k same j (numbered g.messages j)
-  acts_goes (event.Settle n) id = stays link first rises holds w g k same
-  acts_goes (event.Crash v) id = unless_goes link first rises holds w g k same (not (is_in g.running v)) _ (happening.crashes (enclaves link) v) (λ b. crashes_goes link first rises holds w g k same v)
-  acts_goes (event.Save v) id = tells_goes link first rises holds w g k same v Save (λ s. tt)
-  acts_goes (event.Roll v j) id = unless_goes link first rises holds w g k same (not (is_in g.running v)) _ (happening.rolls (enclaves link) v j) (λ b. rolls_goes link first rises holds w g k same v j)
-  acts_goes (event.Join v x) id = tells_goes link first rises holds w g k same v (Join x) (λ s. tt)
-  acts_goes (event.Admit v x) id = tells_goes link first rises holds w g k same v (Admit x) (λ s. tt)
-  acts_goes (event.Remove v x) id = tells_goes link first rises holds w g k same v (Remove x) (λ s. tt)
-  acts_goes (event.Ask v c n request) id = tells_goes link first rises holds w g k same v (Client c n request) (λ s. tt)
-  acts_goes (event.Want c want) id = wants_goes link first rises holds w g k same c (wanted (unwrap_or (core_of g.cores c) new_core) want)
-  acts_goes (event.Say c v) id = says_goes link first rises holds w g k same c v (happening.said_by (enclaves link) (core_of g.cores c))
-  acts_goes (event.Hear c j) id = hears_goes link first rises holds w g k same c j (numbered g.answers j)
-  acts_goes (event.Margin v m) id = tells_goes link first rises holds w g k same v (Margin m) (λ s. tt)
-  acts_goes (event.Again c) id = stays link first rises holds w g k same
+  pub acts_goes : (e : Event) → Goes link first holds g (group_after w (happening.acts (enclaves link) e g))
+  acts_goes (event.Begin margin limit voters) = stays link first rises holds w g k same
+  acts_goes (event.Start zero) = stays link first rises holds w g k same
+  acts_goes (event.Start (suc x)) =
+      unless_goes link first rises holds w g k same (is_in g.started (suc x)) _ (happening.starts (enclaves link) (suc x)) (λ new. starts_goes link first rises holds w g k same (suc x) (omega arith) new)
+  acts_goes (event.Tick v) = tells_goes link first rises holds w g k same v Tick (λ s. tt)
+  acts_goes (event.Deliver j) = delivers_goes j (numbered g.messages j) (mail_at j)
+  acts_goes (event.Lose j) = loses_goes link first rises holds w g k same j (numbered g.messages j)
+  acts_goes (event.Settle n) = stays link first rises holds w g k same
+  acts_goes (event.Crash v) = unless_goes link first rises holds w g k same (not (is_in g.running v)) _ (happening.crashes (enclaves link) v) (λ b. crashes_goes link first rises holds w g k same v)
+  acts_goes (event.Save v) = tells_goes link first rises holds w g k same v Save (λ s. tt)
+  acts_goes (event.Roll v j) = unless_goes link first rises holds w g k same (not (is_in g.running v)) _ (happening.rolls (enclaves link) v j) (λ b. rolls_goes link first rises holds w g k same v j)
+  acts_goes (event.Join v x) = tells_goes link first rises holds w g k same v (Join x) (λ s. tt)
+  acts_goes (event.Admit v x) = tells_goes link first rises holds w g k same v (Admit x) (λ s. tt)
+  acts_goes (event.Remove v x) = tells_goes link first rises holds w g k same v (Remove x) (λ s. tt)
+  acts_goes (event.Ask v c n request) = tells_goes link first rises holds w g k same v (Client c n request) (λ s. tt)
+  acts_goes (event.Want c want) = wants_goes link first rises holds w g k same c (wanted (unwrap_or (core_of g.cores c) new_core) want)
+  acts_goes (event.Say c v) = says_goes link first rises holds w g k same c v (happening.said_by (enclaves link) (core_of g.cores c))
+  acts_goes (event.Hear c j) = hears_goes link first rises holds w g k same c j (numbered g.answers j)
+  acts_goes (event.Margin v m) = tells_goes link first rises holds w g k same v (Margin m) (λ s. tt)
+  acts_goes (event.Again c) = stays link first rises holds w g k same

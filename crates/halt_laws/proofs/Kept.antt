@@ -14,7 +14,7 @@ use Rattle.group_model.specs.Happens as happening
 use Rattle.group_model.specs.Happens.{happens}
 use Rattle.group_model.specs.Run.{Recorded, Enclaves, World, no_enclaves, enclaves, group_after, run, empty_world}
 use Rattle.group_model.specs.Log.{AnyByRecursion, IsFrontOf, NoCollision, state_of}
-use Rattle.group_model.specs.Halts.{LedIn, HoldsEnough, PromiseLies, HaltLaws, StartsAnId, NoHalt}
+use Rattle.group_model.specs.Halts.{LedIn, HoldsEnough, PromiseLies, HaltLaws, NoHalt}
 use Rattle.log_laws.proofs.Chain.{NoCollisionIn}
 use Rattle.log_laws.proofs.History.{HeldIn, all_more}
 use Rattle.halt_machine.specs.Machine.{Machine, In}
@@ -53,12 +53,12 @@ module _ (link : Link) (w g : World) (k : KeptWorld link g) where
   first_kept (event.Begin margin limit voters) unset = begins_kept limit margin voters (conf_of margin voters) refl unset
   first_kept e unset = k
 
-  acts_in_kept : (o : Option Setup) (e : Event) → StartsAnId e → g.setup ≡ o → ((setup : Setup) → g.setup ≡ Some setup → Goes link setup.first (is_in setup.first.voters) g w) → KeptWorld link (group_after w (happening.acts_in (enclaves link) o e g))
-  acts_in_kept None e id is same = first_kept e is
-  acts_in_kept (Some setup) e id is same =
+  acts_in_kept : (o : Option Setup) (e : Event) → g.setup ≡ o → ((setup : Setup) → g.setup ≡ Some setup → Goes link setup.first (is_in setup.first.voters) g w) → KeptWorld link (group_after w (happening.acts_in (enclaves link) o e g))
+  acts_in_kept None e is same = first_kept e is
+  acts_in_kept (Some setup) e is same =
       let after : World = group_after w (happening.acts (enclaves link) e g) in
       let goes : Goes link setup.first (is_in setup.first.voters) g after =
-      acts_goes link setup.first (k.rising setup is) (is_in setup.first.voters) w g (λ none unrolled. k.kept none unrolled setup is) (same setup is) e id in
+      acts_goes link setup.first (k.rising setup is) (is_in setup.first.voters) w g (λ none unrolled. k.kept none unrolled setup is) (same setup is) e in
       record {
         rising = λ s set. k.rising s (sym goes.as_set ∙ set);
         early = λ unset. absurd (none-some setup (sym unset ∙ (goes.as_set ∙ is)));
@@ -66,19 +66,19 @@ module _ (link : Link) (w g : World) (k : KeptWorld link g) where
       }
 
 -- one event
-event_kept : (link : Link) (w : World) (e : Event) → StartsAnId e → KeptWorld link w → KeptWorld link (group_after w (happens (enclaves link) e w))
-event_kept link w e id k =
+event_kept : (link : Link) (w : World) (e : Event) → KeptWorld link w → KeptWorld link (group_after w (happens (enclaves link) e w))
+event_kept link w e k =
     let g : World = record w { past = e ∷ w.past } in
-    acts_in_kept link w g (record { rising = k.rising; early = k.early; kept = k.kept }) w.setup e id refl
+    acts_in_kept link w g (record { rising = k.rising; early = k.early; kept = k.kept }) w.setup e refl
     (λ setup is. record { as_set = refl; grows = λ p h. h; unrolled = λ h. h; kept = λ none unrolled. k.kept none unrolled setup is })
 
 -- all events
-events_kept : (link : Link) (events : List Event) (w : World) → AllByRecursion StartsAnId events → KeptWorld link w → KeptWorld link (fold (λ w e. group_after w (happens (enclaves link) e w)) w events)
-events_kept link [] w ids k = k
-events_kept link (e ∷ events) w ids k = events_kept link events (group_after w (happens (enclaves link) e w)) ids.1 (event_kept link w e ids.0 k)
+events_kept : (link : Link) (events : List Event) (w : World) → KeptWorld link w → KeptWorld link (fold (λ w e. group_after w (happens (enclaves link) e w)) w events)
+events_kept link [] w k = k
+events_kept link (e ∷ events) w k = events_kept link events (group_after w (happens (enclaves link) e w)) (event_kept link w e k)
 
-run_kept : (link : Link) (events : List Event) → AllByRecursion StartsAnId events → KeptWorld link (run link events)
-run_kept link events ids = events_kept link events empty_world ids
+run_kept : (link : Link) (events : List Event) → KeptWorld link (run link events)
+run_kept link events = events_kept link events empty_world
     (record {
       rising = λ setup is. absurd (none-some setup is);
       early = λ unset. (refl, refl);
@@ -140,4 +140,4 @@ kept_laws hold link w k unrolled none = by_setup w.setup refl
     by_setup (Some setup) set = simulated_laws hold link w setup (k.kept none unrolled setup set)
 
 pub no_halt_of : machine.LawsOfRuns is_single_change → NoHalt
-no_halt_of hold link events ids unrolled none = kept_laws hold link (run link events) (run_kept link events ids) unrolled none
+no_halt_of hold link events unrolled none = kept_laws hold link (run link events) (run_kept link events) unrolled none

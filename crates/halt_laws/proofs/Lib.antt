@@ -1,17 +1,16 @@
-pub mod Alike
-pub mod Onward
-pub mod Raising
-pub mod Leading
-pub mod Sending
-pub mod Electing
-pub mod Offering
-pub mod Hearing
-pub mod Changing
-pub mod Stepping
-pub mod Moving
-pub mod Events
-pub mod Begun
-pub mod Kept
-pub mod Whole
-pub mod Ids
-pub mod Halted
+mod Alike
+mod Onward
+mod Raising
+mod Leading
+mod Sending
+mod Electing
+mod Offering
+mod Hearing
+mod Changing
+mod Stepping
+mod Moving
+mod Events
+mod Begun
+mod Kept
+mod Whole
+mod Halted

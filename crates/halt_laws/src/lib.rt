@@ -34,16 +34,14 @@ pub fn nothing_collides()
 {}
 
 ghost use Rattle.std.specs.Prelude.{◌≡◌, [], ◌∷◌};
-ghost use Rattle.std.specs.List.{AllByRecursion};
 ghost use Rattle.group_model.specs.Log.{NoCollision};
-ghost use Rattle.group_model.specs.Halts.{HaltLaws, StartsAnId};
+ghost use Rattle.group_model.specs.Halts.{HaltLaws};
 ghost use Rattle.halt_laws.specs.Whole.{whole_link};
 ghost use Rattle.halt_laws.specs.Succession.{succession, succeeded, leads_told, tables_taken, last_conf};
 
 /// The laws are of something: in a run that meets each premise two replicas lead, a learner takes a table and votes,
 /// and voters and margin change. It only names those laws.
 pub fn a_succession()
-    ensures started { AllByRecursion StartsAnId succession }
     ensures unrolled { succeeded.rolled ≡ [] }
     ensures apart { NoCollision whole_link succeeded }
     ensures lawful { HaltLaws succeeded }
@@ -56,11 +54,10 @@ pub fn a_succession()
     nothing_collides();
 }
 
-ghost use Rattle.halt_laws.specs.OldVotes.{old_votes, revoted, halted};
+ghost use Rattle.halt_laws.specs.OldVotes.{revoted, halted};
 
 /// The premise is needed: in a run with one rollback, and without a collision, two replicas halt. It only names a law.
 pub fn old_votes_halt_two()
-    ensures started { AllByRecursion StartsAnId old_votes }
     ensures apart { NoCollision whole_link revoted }
     ensures rolled { revoted.rolled ≡ 2 ∷ [] }
     ensures two { halted revoted ≡ 3 ∷ 1 ∷ [] }

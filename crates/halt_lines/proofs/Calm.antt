@@ -1,5 +1,5 @@
 -- What an event tells of halts is what its call told, and histories only grow.
-use Rattle.std.proofs.Common.{◌≡◌, ℕ, not, Bool, true, false, Option, Some, None, Result, Ok, Err, List, [], ◌∷◌, refl}
+use Rattle.std.proofs.Common.{◌≡◌, ℕ, zero, suc, not, Bool, true, false, Option, Some, None, Result, Ok, Err, List, [], ◌∷◌, refl}
 use Rattle.std.specs.Prelude.{nat_le, is_none, unwrap_or}
 use Rattle.std.specs.List.{AllByRecursion}
 use Rattle.std.proofs.lemmas.Bool.{cond_both}
@@ -137,7 +137,8 @@ module _ (link : Link) (NoRoll : Type 0) (g : World) where
 module _ (link : Link) (g : World) where
   acts_calm : (e : Event) → Calm (IsNoRoll e) g (happening.acts (enclaves link) e g)
   acts_calm (event.Begin margin limit voters) = passes link _ g _ tt
-  acts_calm (event.Start x) = unless_calm link _ g (is_in g.started x) _ (happening.starts (enclaves link) x) (connected_calm link _ g x g.running _ (start_enclave g.field (Learn x g.running)) (λ u. u.1))
+  acts_calm (event.Start zero) = passes link _ g _ tt
+  acts_calm (event.Start (suc x)) = unless_calm link _ g (is_in g.started (suc x)) _ (happening.starts (enclaves link) (suc x)) (connected_calm link _ g (suc x) g.running _ (start_enclave g.field (Learn (suc x) g.running)) (λ u. u.1))
   acts_calm (event.Tick v) = tells_calm link _ g v Tick
   acts_calm (event.Deliver k) = delivers_calm link _ g k (numbered g.messages k)
   acts_calm (event.Lose k) = loses_calm link _ g k (numbered g.messages k)

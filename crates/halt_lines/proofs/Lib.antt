@@ -1,5 +1,4 @@
-pub mod Calm
-pub mod Texts
-pub mod Reading
-pub mod Playing
-pub mod Told
+mod Calm
+mod Texts
+mod Playing
+mod Told

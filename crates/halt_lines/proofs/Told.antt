@@ -2,7 +2,6 @@
 use Rattle.std.proofs.Common.{◌≡◌, ℕ, zero, suc, ◌+◌, ◌*◌, ◌%◌, ◌==◌, Bool, true, false, cond, Option, Some, None, List, [], ◌∷◌, count_by, refl, sym, ap, subst, arith}
 use Rattle.std.specs.Prelude.{reverse, is_some, IfSome}
 use Rattle.std.specs.List.{AllByRecursion}
-use Rattle.std.proofs.lemmas.List.{reverse-append}
 use Rattle.std.proofs.lemmas.List.Sums.{sum_by-cons}
 use Rattle.svr_base.specs.declared.event.Event.{Event}
 use Rattle.svr_base.specs.declared.event.Event.TheVariants as event
@@ -15,7 +14,7 @@ use Rattle.replica_model.specs.Message.{Message}
 use Rattle.group_model.specs.Group.{Setup}
 use Rattle.group_model.specs.Run.{Recorded, Enclaves, World, enclaves, empty_world}
 use Rattle.group_model.specs.Log.{Bears, WithinBound, NoCollision}
-use Rattle.group_model.specs.Halts.{HaltLaws, NoHalt, StartsAnId}
+use Rattle.group_model.specs.Halts.{HaltLaws, NoHalt}
 use Rattle.group_model.specs.Laws.{OneLog, OneLogLaws}
 use Rattle.log_laws.proofs.Ending.{all-append}
 use Rattle.trace_model.specs.Trace.{Playing, playing, expanded, record_played}
@@ -23,24 +22,15 @@ use Rattle.trace_model.specs.Schedules.{played_of, world_of}
 use Rattle.trace_model.specs.Summary.{halts, drill_played}
 use Rattle.trace_model.specs.Claims.{ScheduleIsARun, DrivenIsARun, DrillHolds, drill_world}
 use Rattle.trace_model.specs.Driven.{driven_world}
-use Rattle.headline_laws.proofs.Driving.{driven_keeps}
-use Rattle.halt_lines.proofs.Reading.{record_read}
 use Rattle.headline_laws.proofs.Played.{PlaysRun, IsRun, all_end, expanded_run}
-use Rattle.halt_machine.proofs.Counted.{bit}
 use Rattle.halt_lines.specs.HaltLines.{NoHaltLine, DrivenNoHalt}
 use Rattle.halt_lines.proofs.Calm.{IsNoRoll}
-use Rattle.halt_lines.proofs.Playing.{Plays, all_plays, record_plays, expanded_plays, whole_fine, last_ids, last_rolled}
-
--- the other way round
-all_reversed : {A : Type 0} (P : A → Type 0) (xs : List A) → AllByRecursion P xs → AllByRecursion P (reverse xs)
-all_reversed P [] h = tt
-all_reversed P (x ∷ xs) h = subst (AllByRecursion P) (sym (reverse-append (x ∷ []) xs)) (all-append P (reverse xs) (x ∷ []) (all_reversed P xs h.1) (h.0, tt))
+use Rattle.halt_lines.proofs.Playing.{Plays, all_plays, record_plays, expanded_plays, whole_fine, last_rolled}
 
 count_step : {A : Type 0} (f : A → Bool) (x : A) (xs : List A) → f x ≡ false → count_by f xs ≡ 0 → count_by f (x ∷ xs) ≡ 0
 count_step f x xs fails none =
-    let one : bit (f x) ≡ 0 = ap bit fails in
-    let whole : count_by f (x ∷ xs) ≡ bit (f x) + count_by f xs = sum_by-cons (λ y. bit (f y)) x xs in
-    omega (arith, one, whole, none)
+    let one : cond {A = ℕ} (f x) 1 0 ≡ 0 = ap (λ b. cond b 1 0) fails in
+    omega (arith, one, sum_by-cons (λ y. cond (f y) 1 0) x xs, none)
 
 -- nobody halted
 none_halts : (history : List Recorded) → AllByRecursion (λ (r : Recorded). r.call.batch.halt ≡ None) history → count_by (λ (r : Recorded). is_some r.call.batch.halt) history ≡ 0
@@ -48,11 +38,11 @@ none_halts [] h = refl
 none_halts (r ∷ history) h = count_step (λ (x : Recorded). is_some x.call.batch.halt) r history (ap is_some h.0) (none_halts history h.1)
 
 -- the laws of a world that is that of a run
-module _ (no_halt : NoHalt) (link : Link) (w : World) (is : IsRun link w) (ids : AllByRecursion StartsAnId w.past) (unrolled : w.rolled ≡ []) (none : NoCollision link w) where
+module _ (no_halt : NoHalt) (link : Link) (w : World) (is : IsRun link w) (unrolled : w.rolled ≡ []) (none : NoCollision link w) where
   laws_of : HaltLaws w
   laws_of =
       subst HaltLaws (sym is)
-      (no_halt link (reverse w.past) (all_reversed StartsAnId w.past ids)
+      (no_halt link (reverse w.past)
       (subst (λ (x : World). x.rolled ≡ []) is unrolled)
       (subst (NoCollision link) is none))
 
@@ -70,46 +60,36 @@ no_halt_line_of are_runs no_halt link bytes unrolled none =
     all_plays ⊥ (record_played (enclaves link)) (λ r. Unit {0}) (λ p r fine. record_plays link p r) start (records_of bytes) (all_records link start (records_of bytes)) in
     let w : World = world_of link bytes in
     let is = are_runs link bytes in
-    let ids = last_ids ⊥ start (played_of link bytes) plays tt in
-    let laws = laws_of no_halt link w is ids unrolled none in
-    (laws, halts_none no_halt link w is ids unrolled none, whole_fine start (played_of link bytes) plays laws.no_halt_told)
-
--- in a driven schedule only ids start
-driven_ids : (link : Link) (bytes : List ℕ) → AllByRecursion StartsAnId (driven_world link bytes).past
-driven_ids link bytes =
-    driven_keeps link (λ (w : World). AllByRecursion StartsAnId w.past) StartsAnId
-    (record { tick = λ v. tt; say = λ c v. tt; hear = λ c k. tt; settle = λ n. tt; read = record_read true })
-    (λ p e id good. last_ids ⊥ p (expanded (enclaves link) p e) (expanded_plays ⊥ link p e id (λ never. absurd never)) good)
-    tt bytes
+    let laws = laws_of no_halt link w is unrolled none in
+    (laws, halts_none no_halt link w is unrolled none, whole_fine start (played_of link bytes) plays laws.no_halt_told)
 
 pub driven_none_of : DrivenIsARun → NoHalt → DrivenNoHalt
 driven_none_of are_runs no_halt link bytes unrolled none =
     let w : World = driven_world link bytes in
     let is = are_runs link bytes in
-    let ids = driven_ids link bytes in
-    (laws_of no_halt link w is ids unrolled none, halts_none no_halt link w is ids unrolled none)
+    (laws_of no_halt link w is unrolled none, halts_none no_halt link w is unrolled none)
 
--- an event of a drill starts nobody, and puts nothing back
+-- an event of a drill puts nothing back
 abbrev Fine : Event → Type 0
-Fine e = StartsAnId e × (Unit {0} → IsNoRoll e)
+Fine e = Unit {0} → IsNoRoll e
 
 exchange_fine : (i a : ℕ) → AllByRecursion Fine (exchange i a)
-exchange_fine i a = ((tt, λ n. tt), ((tt, λ n. tt), ((tt, λ n. tt), tt)))
+exchange_fine i a = ((λ n. tt), ((λ n. tt), ((λ n. tt), tt)))
 
 stores_fine : (i a : ℕ) → AllByRecursion Fine (stores i a)
-stores_fine i a = ((tt, λ n. tt), all-append Fine (exchange i a) (exchange i (a + 1)) (exchange_fine i a) (exchange_fine i (a + 1)))
+stores_fine i a = ((λ n. tt), all-append Fine (exchange i a) (exchange i (a + 1)) (exchange_fine i a) (exchange_fine i (a + 1)))
 
 all_store_fine : (n i a : ℕ) → AllByRecursion Fine (all_store n i a)
 all_store_fine zero i a = tt
 all_store_fine (suc n) i a = all-append Fine (stores i a) (all_store n (i + 1) (a + 2)) (stores_fine i a) (all_store_fine n (i + 1) (a + 2))
 
 round_fine : (b : Bool) → AllByRecursion Fine (cond b (event.Tick 1 ∷ event.Settle 8 ∷ []) [])
-round_fine true = ((tt, λ n. tt), ((tt, λ n. tt), tt))
+round_fine true = ((λ n. tt), ((λ n. tt), tt))
 round_fine false = tt
 
 wishes_fine : (i a u : ℕ) → AllByRecursion Fine (wishes i a u)
 wishes_fine i a u =
-    all-append Fine (cond (u % 4 == 3) (event.Tick 1 ∷ event.Settle 8 ∷ []) []) (event.Want (client i) (wish i u) ∷ exchange i a) (round_fine (u % 4 == 3)) ((tt, λ n. tt), exchange_fine i a)
+    all-append Fine (cond (u % 4 == 3) (event.Tick 1 ∷ event.Settle 8 ∷ []) []) (event.Want (client i) (wish i u) ∷ exchange i a) (round_fine (u % 4 == 3)) ((λ n. tt), exchange_fine i a)
 
 all_wish_fine : (seed n i a : ℕ) → AllByRecursion Fine (all_wish seed n i a)
 all_wish_fine seed zero i a = tt
@@ -117,10 +97,10 @@ all_wish_fine seed (suc n) i a = all-append Fine (wishes i a _) (all_wish seed n
 
 drill_fine : (seed clients : ℕ) → AllByRecursion Fine (drill_events seed clients)
 drill_fine seed clients = (
-  (tt, λ n. tt),
+  (λ n. tt),
   (
-    (tt, λ n. tt),
-    ((tt, λ n. tt), all-append Fine (all_store clients 1 1) (all_wish seed clients 1 (2 * clients + 1)) (all_store_fine clients 1 1) (all_wish_fine seed clients 1 (2 * clients + 1))),
+    (λ n. tt),
+    ((λ n. tt), all-append Fine (all_store clients 1 1) (all_wish seed clients 1 (2 * clients + 1)) (all_store_fine clients 1 1) (all_wish_fine seed clients 1 (2 * clients + 1))),
   ),
 )
 
@@ -144,10 +124,9 @@ drill_holds_of one_log no_halt link seed clients none =
     let start : Playing Message Enclaves = playing empty_world in
     let w : World = drill_world link seed clients in
     let plays : Plays (Unit {0}) start (drill_played link seed clients) =
-    all_plays (Unit {0}) (expanded (enclaves link)) Fine (λ p e fine. expanded_plays (Unit {0}) link p e fine.0 fine.1) start (drill_events seed clients) (drill_fine seed clients) in
+    all_plays (Unit {0}) (expanded (enclaves link)) Fine (λ p e fine. expanded_plays (Unit {0}) link p e fine) start (drill_events seed clients) (drill_fine seed clients) in
     let is : IsRun link w = all_end (PlaysRun link) (expanded (enclaves link)) (λ p e good. expanded_run link p e good) start (drill_events seed clients) refl in
-    let ids = last_ids (Unit {0}) start (drill_played link seed clients) plays tt in
     let unrolled : w.rolled ≡ [] = last_rolled (Unit {0}) start (drill_played link seed clients) plays tt in (
       subst OneLogLaws (sym is) (one_log link (reverse w.past) (subst WithinBound is (within_none w unrolled)) (subst (NoCollision link) is none)),
-      halts_none no_halt link w is ids unrolled none,
+      halts_none no_halt link w is unrolled none,
     )

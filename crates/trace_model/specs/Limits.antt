@@ -1,5 +1,5 @@
 -- The limits of a run, and which one an event would pass first.
-use Rattle.std.specs.Prelude.{ℕ, ◌&&◌, nat_le, nat_lt, not, Bool, false, if◌then◌else◌, List, [], ◌∷◌, length, Option, Some, None}
+use Rattle.std.specs.Prelude.{ℕ, zero, suc, ◌&&◌, nat_le, nat_lt, not, Bool, false, if◌then◌else◌, List, [], ◌∷◌, length, Option, Some, None}
 use Rattle.group_quorum.specs.Voters.{is_in}
 use Rattle.svr_base.specs.declared.event.Event.{Event}
 use Rattle.svr_base.specs.declared.event.Event.TheVariants as event
@@ -32,7 +32,8 @@ first_passed (test ∷ tests) = if test.0 then Some test.1 else first_passed tes
 
 -- whether an event starts a replica
 abbrev pub starts_one : {M F : Type 0} → Group M F → Event → Bool
-starts_one g (event.Start r) = not (is_in g.started r)
+starts_one g (event.Start zero) = false
+starts_one g (event.Start (suc k)) = not (is_in g.started (suc k))
 starts_one g e = false
 
 -- what an event would pass, tried before it

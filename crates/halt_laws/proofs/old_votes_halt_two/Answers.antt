@@ -1,14 +1,10 @@
 use Rattle.std.proofs.Common.{◌≡◌, [], ◌∷◌, refl}
-use Rattle.halt_laws.specs.OldVotes.{old_votes, revoted, halted}
-use Rattle.halt_laws.proofs.Ids.{all_started}
+use Rattle.halt_laws.specs.OldVotes.{revoted, halted}
 use Rattle.halt_laws.proofs.Halted.{laws_broken}
 use Rattle.halt_laws.proofs.old_votes_halt_two.Goals as goal
 
 two_halt : halted revoted ≡ 3 ∷ 1 ∷ []
 two_halt = refl
-
-pub returns-clause-started : goal.returns-clause-started
-returns-clause-started c = all_started old_votes refl
 
 pub returns-clause-apart : goal.returns-clause-apart
 returns-clause-apart c = c.nothing_collides.ensures revoted
