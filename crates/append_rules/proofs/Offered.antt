@@ -1,6 +1,6 @@
 -- What came of an append is what the model says.
-use Rattle.std.proofs.Common.{◌≡◌, ℕ, cond, min, max, Option, Some, None, List, [], ◌∷◌, refl, sym, ap, subst, ◌∙◌}
-use Rattle.std.proofs.lemmas.Bool.{lt-leb, le-leb}
+use Rattle.std.proofs.Common.{◌≡◌, ℕ, cond, nat_le, min, max, Option, Some, None, List, [], ◌∷◌, refl, sym, ap, subst, ◌∙◌}
+use Rattle.std.proofs.lemmas.Bool.{lt-leb, le-leb, cond-true, cond-false}
 use Rattle.svr_base.specs.declared.entry.Point.{Point}
 use Rattle.svr_base.specs.declared.peer.PeerMsg.{PeerMsg}
 use Rattle.svr_base.specs.declared.peer.PeerMsg.TheVariants.{Accepted, Rejected}
@@ -12,7 +12,7 @@ use Rattle.replica_model.specs.Call.{Call, says}
 use Rattle.replica_model.specs.Graft.{Offer, Difference, end_of, first_difference, points_of, refusal_hint, halts, following, grafted, accepts, answered, graft, conflict_or_graft, append_heard}
 use Rattle.replica_log.specs.Window.{Window}
 use Rattle.replica_log.specs.Models.{StandsFor, IsNoConflict, IsConflict, IsRefused, IsGrafted, with_graft}
-use Rattle.append_rules.specs.Taken.{TakesOffer}
+use Rattle.append_rules.specs.Taken.{TakesOffer, unless_refused, cut_at}
 
 -- ---- the model's call in each of the three cases
 
@@ -36,6 +36,20 @@ module _ (s : Replica) (o : Offer) where
   conflict_call d is =
       ap (λ f. conflict_or_graft sha_link s f o) is.first ∙ ap (λ b. cond b (halts s d) (graft sha_link s (Some d) o)) (le-leb d.0 s.promised is.promised)
 
+  -- ---- where the path is cut in each case
+
+  refused_cut : (d : Option Difference) (hint : ℕ) → IsNoConflict s d → refusal_hint s d o ≡ Some hint → cut_at s d o ≡ None
+  refused_cut None hint free refused = refl
+  refused_cut (Some d) hint free refused =
+      cond-false (nat_le d.0 s.promised) None (unless_refused (refusal_hint s (Some d) o) d) (lt-leb d.0 s.promised free)
+      ∙ ap (λ r. unless_refused r d) refused
+
+  grafted_cut : (d : Option Difference) → IsNoConflict s d → refusal_hint s d o ≡ None → cut_at s d o ≡ d
+  grafted_cut None free taken = refl
+  grafted_cut (Some d) free taken =
+      cond-false (nat_le d.0 s.promised) None (unless_refused (refusal_hint s (Some d) o) d) (lt-leb d.0 s.promised free)
+      ∙ ap (λ r. unless_refused r d) taken
+
   -- ---- the answer in each case
 
   pub takes_conflict : (d : Difference) (w : Window) → IsConflict sha_link s o d → StandsFor sha_link w s
@@ -46,7 +60,7 @@ module _ (s : Replica) (o : Offer) where
         stands = subst (λ (c : Call). StandsFor sha_link w c.state) (sym e) stands;
         halts = ap (λ (c : Call). c.batch.halt) e;
         replies = ap (λ (c : Call). c.sent) e;
-        cuts = λ some. absurd (cc);
+        cuts = sym (ap (λ f. cut_at s f o) is.first ∙ cond-true (nat_le d.0 s.promised) None (unless_refused (refusal_hint s (Some d) o) d) (le-leb d.0 s.promised is.promised));
       }
 
   pub takes_refused : (hint term : ℕ) (prev : Point) (w : Window) → IsRefused sha_link s o hint → s.term ≡ term → o.prev ≡ prev → StandsFor sha_link w s
@@ -58,7 +72,7 @@ module _ (s : Replica) (o : Offer) where
         stands = subst (λ (c : Call). StandsFor sha_link w c.state) (sym e) stands;
         halts = ap (λ (c : Call). c.batch.halt) e;
         replies = ap (λ (c : Call). c.sent) e ∙ ap (λ n. to (Rejected n o.prev.index hint)) term_is ∙ ap (λ (p : Point). to (Rejected term p.index hint)) prev_is;
-        cuts = λ some. absurd (cc);
+        cuts = sym (refused_cut (first_difference sha_link s (points_of sha_link o)) hint is.no_conflict is.refused);
       }
 
   pub takes_grafted : (end : Point) (cut : Option Difference) (term promised : ℕ) (w u : Window) → IsGrafted sha_link s o w end cut → s.term ≡ term
@@ -81,5 +95,5 @@ module _ (s : Replica) (o : Offer) where
             ∙ ap (λ k. to (Accepted k here (min n (end_of o)))) term_is
             ∙ ap (λ p. to (Accepted term p (min n (end_of o)))) (sym is.ends)
             ∙ ap (λ k. to (Accepted term end (min k (end_of o)))) (sym promised_is);
-        cuts = λ some. sym is.found;
+        cuts = sym (ap (λ f. cut_at s f o) is.found ∙ grafted_cut cut is.no_conflict is.taken);
       }

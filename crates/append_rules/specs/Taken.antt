@@ -1,5 +1,5 @@
 -- What a follower makes of an append.
-use Rattle.std.specs.Prelude.{◌≡◌, ℕ, min, max, Option, Some, None, List, [], ◌∷◌, IsSome}
+use Rattle.std.specs.Prelude.{◌≡◌, ℕ, cond, nat_le, min, max, Option, Some, None, List, [], ◌∷◌}
 use Rattle.svr_base.specs.declared.entry.Point.{Point}
 use Rattle.svr_base.specs.declared.peer.PeerMsg.{PeerMsg}
 use Rattle.svr_base.specs.declared.peer.PeerMsg.TheVariants.{Accepted, Rejected}
@@ -7,7 +7,7 @@ use Rattle.replica_model.specs.Path.{Path}
 use Rattle.replica_model.specs.Linked.{sha_link}
 use Rattle.replica_model.specs.Message.{Message, plain}
 use Rattle.replica_model.specs.Replica.{Replica}
-use Rattle.replica_model.specs.Graft.{Offer, first_difference, points_of, append_heard}
+use Rattle.replica_model.specs.Graft.{Offer, Difference, first_difference, points_of, refusal_hint, append_heard}
 use Rattle.replica_log.specs.declared.graft.Graft.{Graft}
 use Rattle.replica_log.specs.declared.graft.Graft.TheVariants.{Grafted, Apart, Conflict}
 use Rattle.replica_log.specs.Window.{Window, promised_to, committed_to}
@@ -53,10 +53,19 @@ abbrev pub sent_to : ℕ → Option PeerMsg → List (ℕ × Message)
 sent_to from None = []
 sent_to from (Some msg) = (from, plain msg) ∷ []
 
--- the answer is that of the model's call, the log stands for the replica after it, and what was cut is the first
--- difference
+-- a difference counts where no hint refuses the offer
+abbrev pub unless_refused : Option ℕ → Difference → Option Difference
+unless_refused (Some hint) d = None
+unless_refused None d = Some d
+
+-- where the path is cut: at the first difference, unless that is a conflict or the offer is refused
+abbrev pub cut_at : Replica → Option Difference → Offer → Option Difference
+cut_at s None o = None
+cut_at s (Some d) o = cond (nat_le d.0 s.promised) None (unless_refused (refusal_hint s (Some d) o) d)
+
+-- the answer is that of the model's call, the log stands for the replica after it, and it was cut where the model's is
 pub record TakesOffer (s : Replica) (o : Offer) (w : Window) (took : Took) : Type 0 where
   pub stands : StandsFor sha_link w (append_heard sha_link s o).state
   pub halts : (append_heard sha_link s o).batch.halt ≡ took.halt
   pub replies : (append_heard sha_link s o).sent ≡ sent_to o.from took.reply
-  pub cuts : IsSome took.cut → took.cut ≡ first_difference sha_link s (points_of sha_link o)
+  pub cuts : took.cut ≡ cut_at s (first_difference sha_link s (points_of sha_link o)) o
