@@ -2,12 +2,11 @@
 //!
 //! The whole message is walked through once, and each embedded message is read where it stands.
 
-ghost use Rattle.std.specs.Prelude.{◌≡◌, ℕ, ◌≤◌, ◌<◌, ◌+◌, ◌^◌, ◌++◌, ◌∷◌, [], List, length, drop, map, nat_le, slice_range, IfOk, IfErr, OnOk, Option, Some, None, unwrap_or};
+ghost use Rattle.std.specs.Prelude.{◌≡◌, ℕ, ◌≤◌, ◌<◌, ◌+◌, ◌^◌, ◌++◌, ◌∷◌, [], List, length, drop, slice_range, IfOk, IfErr, OnOk, Option, Some, None, unwrap_or};
 ghost use Rattle.proto_wire.specs.Fields.{Field, field_of, sequence_at};
 ghost use Rattle.proto_wire.specs.Walk.{IsWithin, IsSlice};
 ghost use Rattle.proto_wire.specs.Reading.{u64_of, varint_under, first_fault_in, run_so_far};
 ghost use Rattle.proto_wire.specs.Reading as wire;
-ghost use Rattle.group_msgs.specs.Known.{Known, known_of};
 ghost use Rattle.group_msgs.specs.Reading.{listed_fault, member_fault, wire_fault, member_of};
 ghost use Rattle.group_msgs.specs.Reading as reading;
 ghost use Rattle.group_msgs.specs.Gathered.{IsRun, IsLast, Tells};
