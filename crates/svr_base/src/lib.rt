@@ -1,38 +1,13 @@
-//! The values that all layers share, and the source and the sink of bytes.
+//! The values that all layers share, and the source and the sink of bytes: what the crates `values` and `byte_streams`
+//! declare, under one name.
 #![tactic(auto)]
 
-mod batch;
-mod bytes;
-mod copies;
-mod entry;
-mod event;
-mod ids;
-mod in_memory;
-mod items;
-mod limits;
-mod memory;
-mod message;
-mod peer;
-mod row;
-mod std_streams;
-mod streams;
-#[cfg(test)]
-mod tests;
-mod want;
-
-pub use batch::{AnswerList, Batch, CommitList, MemberList, Refusal, SentList};
-pub use bytes::Bytes;
-pub use copies::TryCopy;
-pub use entry::{Body, Entries, Hash, LogEntry, Point};
-pub use event::{BeginIds, Cause, Event, EventList};
-pub use ids::{ClientId, Ids, ReplicaId};
-pub use in_memory::{MemSink, MemSource};
-pub use items::Items;
-pub use limits::{MAX_ENTRIES, ROWS_PER_PART, TOP};
-pub use memory::Memory;
-pub use message::{Answer, Part, Reply, Request, Response};
-pub use peer::{PeerMsg, TablePart};
-pub use row::{Kept, Row, Rows};
-pub use std_streams::{StdSink, StdSource};
-pub use streams::{Failed, Sink, Source, write_all};
-pub use want::{Report, Want, WantFault};
+pub use byte_streams::{Failed, MemSink, MemSource, Sink, Source, StdSink, StdSource, write_all};
+pub use values::{
+    Answer, AnswerList, Batch, BeginIds, Body, Bytes, Cause, ClientId, CommitList, Entries, Event,
+    EventList, Hash, Ids, Items, Kept, LogEntry, MAX_ANSWERS, MAX_BATCH, MAX_CLIENTS, MAX_CONTENT,
+    MAX_ENTRIES, MAX_EVENTS, MAX_FRAMES, MAX_MESSAGES, MAX_PARTS, MAX_REPLICAS, MAX_REQUEST,
+    MAX_SETTLED, MAX_SOURCE, MAX_STATES, MOST_ROWS, MemberList, Memory, Part, PeerMsg, Point,
+    ROWS_PER_PART, Refusal, ReplicaId, Reply, Report, Request, Response, Row, Rows, SentList, TOP,
+    TablePart, TryCopy, Want, WantFault,
+};

@@ -1,6 +1,0 @@
-mod InMemoryRuns
-mod Moved
-pub mod Prefixes
-pub mod Ends
-pub mod Rises
-pub mod RisingLists
