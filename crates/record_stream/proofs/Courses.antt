@@ -1,28 +1,35 @@
--- Courses over records in two parts.
-use Rattle.std.proofs.Common.{refl, sym, ap, ◌∙◌, ◌≡◌, ℕ, List, [], ◌++◌, take, drop, Bool, Option, Result, Ok, Err, append_assoc, append-nil, take-append-drop}
-use Rattle.std.specs.Io.KnownBytes.{Appends}
-use Rattle.std.proofs.KnownBytes.{Appends-trans}
-use Rattle.record_stream.specs.Lines.{Record}
-use Rattle.svr_base.specs.Streams.{AppendsPrefix}
-use Rattle.record_stream.specs.Course.{Course, Goes, Stops, Begins, PlaysTo, Writes, stop_by}
-use Rattle.record_stream.specs.declared.player.Unwritten.{Unwritten}
-use Rattle.record_stream.specs.declared.player.Unwritten.TheVariants as unwritten
+-- Courses over records in two parts, and players over them.
+use Rattle.std.proofs.Common.{refl, sym, ap, subst, ◌∙◌, ◌≡◌, ℕ, List, [], ◌∷◌, ◌++◌, length, take, drop, Bool, true, false, Option, Result, Ok, Err, append_assoc, append-nil, take-append-drop}
+use Rattle.record_cutting.specs.Lines.{Record}
+use Rattle.record_stream.specs.Course.{Course, Goes, Stops, Begins, Is, Outlook, IsHistory, Advances, Halts, Cuts, Fails, Grows, PlaysTo}
 use Rattle.record_stream.specs.declared.player.Stop.{Stop}
 use Rattle.record_stream.specs.declared.player.Stop.TheVariants as stop
 
+-- ---- lines that grow
+
+pub grows_none : (x : List ℕ) → Grows x x []
+grows_none x = sym (append-nil x)
+
+pub grows_then : (x y z s t : List ℕ) → Grows x y s → Grows y z t → Grows x z (s ++ t)
+grows_then x y z s t h k = k ∙ ap (λ (l : List ℕ). l ++ t) h ∙ append_assoc x s t
+
+-- ---- courses
+
 pub goes_none : {R : Type 0} (a : Course R) → Goes a [] a []
-goes_none a = record { text = λ closed more. refl; reason = λ more. refl }
+goes_none a = record { text = λ closed more. refl; reason = λ more. refl; takes_all = λ more. refl }
 
 pub goes_then : {R : Type 0} (a b c : Course R) (rs qs : List Record) (s t : List ℕ) → Goes a rs b s → Goes b qs c t → Goes a (rs ++ qs) c (s ++ t)
 goes_then a b c rs qs s t g h = record {
   text = λ closed more. rw (append_assoc rs qs more, g.text closed (qs ++ more), h.text closed more) (sym (append_assoc s t (c.text closed more)));
   reason = λ more. rw (append_assoc rs qs more, g.reason (qs ++ more)) (h.reason more);
+  takes_all = λ more. rw (append_assoc rs qs more, g.takes_all (qs ++ more)) (h.takes_all more);
 }
 
 pub stops_then : {R : Type 0} (a b : Course R) (rs qs : List Record) (why : R) (s t : List ℕ) → Goes a rs b s → Stops b qs why t → Stops a (rs ++ qs) why (s ++ t)
 stops_then a b rs qs why s t g h = record {
   text = λ closed more. rw (append_assoc rs qs more, g.text closed (qs ++ more), h.text closed more) refl;
   reason = λ more. rw (append_assoc rs qs more, g.reason (qs ++ more)) (h.reason more);
+  takes_all = λ more. rw (append_assoc rs qs more, g.takes_all (qs ++ more)) (h.takes_all more);
 }
 
 pub begins_then : {R : Type 0} (a b : Course R) (rs qs : List Record) (s t : List ℕ) → Goes a rs b s → Begins b qs t → Begins a (rs ++ qs) (s ++ t)
@@ -32,58 +39,139 @@ begins_then a b rs qs s t g h = record {
       (rest, rw (append_assoc rs qs more, g.text closed (qs ++ more), e) (sym (append_assoc s t rest)));
 }
 
--- records after some that were played
-pub plays_then : {R T : Type 0} (a b c : Course R) (rs qs : List Record) (s : List ℕ) (x y z : Option (List ℕ)) (r : Result T (Stop R))
-    → Goes a rs b s → Appends x y s → PlaysTo b qs c y z r → PlaysTo a (rs ++ qs) c x z r
-plays_then a b c rs qs s x y z (Ok o) g h (t, k, l) = (s ++ t, goes_then a b c rs qs s t g k, Appends-trans x y z s t h l)
-plays_then a b c rs qs s x y z (Err (stop.Stopped why)) g h (t, k, l) = (s ++ t, stops_then a b rs qs why s t g k, Appends-trans x y z s t h l)
-plays_then a b c rs qs s x y z (Err stop.Memory) g h (t, k, l) = (s ++ t, begins_then a b rs qs s t g k, Appends-trans x y z s t h l)
-plays_then a b c rs qs s x y z (Err stop.WriteFault) g h (t, k, l) = (s ++ t, begins_then a b rs qs s t g k, Appends-trans x y z s t h l)
-
 stops_more : {R : Type 0} (a : Course R) (rs qs : List Record) (why : R) (t : List ℕ) → Stops a rs why t → Stops a (rs ++ qs) why t
 stops_more a rs qs why t h = record {
   text = λ closed more. rw (append_assoc rs qs more) (h.text closed (qs ++ more));
   reason = λ more. rw (append_assoc rs qs more) (h.reason (qs ++ more));
+  takes_all = λ more. rw (append_assoc rs qs more) (h.takes_all (qs ++ more));
 }
 
 begins_more : {R : Type 0} (a : Course R) (rs qs : List Record) (t : List ℕ) → Begins a rs t → Begins a (rs ++ qs) t
 begins_more a rs qs t h = record { text = λ closed more. rw (append_assoc rs qs more) (h.text closed (qs ++ more)) }
 
+is_more : {R : Type 0} (a : Course R) (rs qs : List Record) (t : List ℕ) → Is a rs t → Is a (rs ++ qs) t
+is_more a rs qs t h = record { text = λ closed more. rw (append_assoc rs qs more) (h.text closed (qs ++ more)) }
+
+-- first bytes of a text with which another begins
+pub begins_take : {R : Type 0} (a : Course R) (rs : List Record) (t : List ℕ) (n : ℕ) → Begins a rs t → Begins a rs (take n t)
+begins_take a rs t n h = record {
+  text = λ closed more.
+      let (rest, e) = h.text closed more in
+      (drop n t ++ rest, e ∙ ap (λ (l : List ℕ). l ++ rest) (sym (take-append-drop n t)) ∙ append_assoc (take n t) (drop n t) rest);
+}
+
+pub is_then : {R : Type 0} (a b : Course R) (rs qs : List Record) (s t : List ℕ) → Goes a rs b s → Is b qs t → Is a (rs ++ qs) (s ++ t)
+is_then a b rs qs s t g h = record { text = λ closed more. rw (append_assoc rs qs more, g.text closed (qs ++ more), h.text closed more) refl }
+
 -- what was written for the first records, before any others
-pub begins_with : {R : Type 0} (a b : Course R) (rs qs : List Record) (t : List ℕ) → Goes a rs b t → Begins a (rs ++ qs) t
+begins_with : {R : Type 0} (a b : Course R) (rs qs : List Record) (t : List ℕ) → Goes a rs b t → Begins a (rs ++ qs) t
 begins_with a b rs qs t g = record { text = λ closed more. (b.text closed (qs ++ more), rw (append_assoc rs qs more) (g.text closed (qs ++ more))) }
 
-pub begins_all : {R : Type 0} (a b : Course R) (rs : List Record) (t : List ℕ) → Goes a rs b t → Begins a rs t
+begins_all : {R : Type 0} (a b : Course R) (rs : List Record) (t : List ℕ) → Goes a rs b t → Begins a rs t
 begins_all a b rs t g = record { text = λ closed more. (b.text closed more, g.text closed more) }
 
--- where a record's text begins with some lines, and the sink gained first bytes of them, it gained first bytes of the text
-pub begins_prefix : {R : Type 0} (a : Course R) (rs : List Record) (lines : List ℕ) (x y : Option (List ℕ))
-    → ((closed : Bool) (more : List Record) → (rest : List ℕ) × (a.text closed (rs ++ more) ≡ lines ++ rest)) → AppendsPrefix x y lines
-    → (written : List ℕ) × Begins a rs written × Appends x y written
-begins_prefix a rs lines x y h (n, bound, gained) = (
-  take n lines,
-  record {
-    text = λ closed more.
-        let (rest, e) = h closed more in
-        (drop n lines ++ rest, e ∙ ap (λ (l : List ℕ). l ++ rest) (sym (take-append-drop n lines)) ∙ append_assoc (take n lines) (drop n lines) rest);
-  },
-  gained,
-)
+pub empty_is : (xs : List ℕ) → length xs ≡ 0 → xs ≡ []
+empty_is [] e = refl
+empty_is (x ∷ xs) e = cc e
 
--- the same, as what became of the record
-pub unwritten_plays : {R T : Type 0} (a b : Course R) (rs : List Record) (lines : List ℕ) (x y : Option (List ℕ)) (e : Unwritten) (q : Result T Unwritten) (r : Result T (Stop R))
-    → ((closed : Bool) (more : List Record) → (rest : List ℕ) × (a.text closed (rs ++ more) ≡ lines ++ rest)) → q ≡ Err e → r ≡ Err (stop_by e) → Writes lines x y q
-    → PlaysTo a rs b x y r
-unwritten_plays a b rs lines x y unwritten.Memory q r h was is writes = rw is (begins_prefix a rs lines x y h (rw was at writes))
-unwritten_plays a b rs lines x y unwritten.WriteFault q r h was is writes = rw is (begins_prefix a rs lines x y h (rw was at writes))
+-- ---- a player, by what it got between two states and what courses it may take
 
-stopped_in : {R U : Type 0} (T : Type 0) (a b c : Course R) (rs qs : List Record) (x y : Option (List ℕ)) (e : Stop R) (r : Result U (Stop R)) → r ≡ Err e
-    → PlaysTo {T = T} a rs b x y (Err e) → PlaysTo a (rs ++ qs) c x y r
-stopped_in T a b c rs qs x y (stop.Stopped why) r is (t, k, l) = rw is (t, stops_more a rs qs why t k, l)
-stopped_in T a b c rs qs x y stop.Memory r is (t, k, l) = rw is (t, begins_more a rs qs t k, l)
-stopped_in T a b c rs qs x y stop.WriteFault r is (t, k, l) = rw is (t, begins_more a rs qs t k, l)
+module _ {S R G : Type 0} (gains : S → S → List G → Type 0) (takes : S → Outlook R G) where
+  -- no more answers come than these
+  pub taken_all : (p : S) (fails : Bool) (given : List G) (a : Course R) → takes p fails given a → takes p fails (given ++ []) a
+  taken_all p fails given a taken = subst (λ (gs : List G). takes p fails gs a) (sym (append-nil given)) taken
 
--- what stopped in some records stops in more
-pub stops_in : {R T U : Type 0} (a b c : Course R) (rs qs : List Record) (x y : Option (List ℕ)) (e : Stop R) (q : Result T (Stop R)) (r : Result U (Stop R))
-    → q ≡ Err e → r ≡ Err e → PlaysTo a rs b x y q → PlaysTo a (rs ++ qs) c x y r
-stops_in {T = T} a b c rs qs x y e q r was is h = stopped_in T a b c rs qs x y e r is (rw was at h)
+  pub cuts_with : (p q : S) (rs qs : List Record) (t : List ℕ) → Advances gains takes p rs q t → Cuts gains takes p (rs ++ qs) q t
+  cuts_with p q rs qs t g = record {
+    given = g.given;
+    gained = g.gained;
+    begins = λ a taken. let (b, goes, next) = g.goes false [] a (taken_all p false g.given a taken) in begins_with a b rs qs t goes;
+  }
+
+  pub cuts_all : (p q : S) (rs : List Record) (t : List ℕ) → Advances gains takes p rs q t → Cuts gains takes p rs q t
+  cuts_all p q rs t g = record {
+    given = g.given;
+    gained = g.gained;
+    begins = λ a taken. let (b, goes, next) = g.goes false [] a (taken_all p false g.given a taken) in begins_all a b rs t goes;
+  }
+
+  -- whatever became of records, the lines are first bytes of their text
+  pub lines_begin : {T : Type 0} (p q : S) (rs : List Record) (lines : List ℕ) (o : Result T (Stop R)) → PlaysTo gains takes p rs q [] lines o → Cuts gains takes p rs q lines
+  lines_begin p q rs lines (Ok done) (t, k, l) = rw l (cuts_all p q rs t k)
+  lines_begin p q rs lines (Err (stop.Stopped why)) (t, k, l) = rw l (record {
+    given = k.given;
+    gained = k.gained;
+    begins = λ a taken. record { text = λ closed more. let stops = k.stops a taken in ([], stops.text closed more ∙ sym (append-nil t)) };
+  })
+  lines_begin p q rs lines (Err stop.Memory) (t, k, l) = rw l k
+  lines_begin p q rs lines (Err stop.Failed) (t, k, l) = rw l (record { given = k.given; gained = k.gained; begins = k.begins })
+
+  stopped_in : {U : Type 0} (T : Type 0) (p q : S) (rs qs : List Record) (x y : List ℕ) (e : Stop R) (r : Result U (Stop R)) → r ≡ Err e
+      → PlaysTo gains takes {T = T} p rs q x y (Err e) → PlaysTo gains takes p (rs ++ qs) q x y r
+  stopped_in T p q rs qs x y (stop.Stopped why) r is (t, k, l) =
+      rw is (t, record { given = k.given; gained = k.gained; stops = λ a taken. stops_more a rs qs why t (k.stops a taken) }, l)
+  stopped_in T p q rs qs x y stop.Memory r is (t, k, l) =
+      rw is (t, record { given = k.given; gained = k.gained; begins = λ a taken. begins_more a rs qs t (k.begins a taken) }, l)
+  stopped_in T p q rs qs x y stop.Failed r is (t, k, l) =
+      rw is
+      (t, record { given = k.given; gained = k.gained; is = λ a taken. is_more a rs qs t (k.is a taken); begins = λ a taken. begins_more a rs qs t (k.begins a taken) }, l)
+
+  -- what stopped in some records stops in more
+  pub stops_in : {T U : Type 0} (p q : S) (rs qs : List Record) (x y : List ℕ) (e : Stop R) (o : Result T (Stop R)) (r : Result U (Stop R))
+      → o ≡ Err e → r ≡ Err e → PlaysTo gains takes p rs q x y o → PlaysTo gains takes p (rs ++ qs) q x y r
+  stops_in {T = T} p q rs qs x y e o r was is h = stopped_in T p q rs qs x y e r is (rw was at h)
+
+  module _ (history : IsHistory gains) where
+    -- nothing was written
+    pub nothing_plays : (p : S) (rs : List Record) (x : List ℕ) → (written : List ℕ) × Cuts gains takes p rs p written × Grows x x written
+    nothing_plays p rs x = ([], record { given = []; gained = history.none p; begins = λ a taken. record { text = λ closed more. (a.text closed (rs ++ more), refl) } }, grows_none x)
+
+    -- no records
+    pub none_plays : (p : S) (rs : List Record) (x : List ℕ) → rs ≡ [] → (written : List ℕ) × Advances gains takes p rs p written × Grows x x written
+    none_plays p rs x none = ([], rw none (record { given = []; gained = history.none p; goes = λ fails later a taken. (a, goes_none a, taken) }), grows_none x)
+
+    pub advances_none : (p : S) → Advances gains takes p [] p []
+    advances_none p = record { given = []; gained = history.none p; goes = λ fails later a taken. (a, goes_none a, taken) }
+
+    pub advances_then : (p q r : S) (rs qs : List Record) (s t : List ℕ) → Advances gains takes p rs q s → Advances gains takes q qs r t → Advances gains takes p (rs ++ qs) r (s ++ t)
+    advances_then p q r rs qs s t g h = record {
+      given = g.given ++ h.given;
+      gained = history.then p q r g.given h.given g.gained h.gained;
+      goes = λ fails later a taken.
+          let (b, first, next) = g.goes fails (h.given ++ later) a (subst (λ (gs : List G). takes p fails gs a) (append_assoc g.given h.given later) taken) in
+          let (c, second, last) = h.goes fails later b next in
+          (c, goes_then a b c rs qs s t first second, last);
+    }
+
+    -- records after some that were played
+    pub plays_then : {T : Type 0} (p q r : S) (rs qs : List Record) (s : List ℕ) (x y z : List ℕ) (o : Result T (Stop R))
+        → Advances gains takes p rs q s → Grows x y s → PlaysTo gains takes q qs r y z o → PlaysTo gains takes p (rs ++ qs) r x z o
+    plays_then p q r rs qs s x y z (Ok done) g h (t, k, l) = (s ++ t, advances_then p q r rs qs s t g k, grows_then x y z s t h l)
+    plays_then p q r rs qs s x y z (Err (stop.Stopped why)) g h (t, k, l) = (
+      s ++ t,
+      record {
+        given = g.given ++ k.given;
+        gained = history.then p q r g.given k.given g.gained k.gained;
+        stops = λ a taken. let (b, goes, next) = g.goes false k.given a taken in stops_then a b rs qs why s t goes (k.stops b next);
+      },
+      grows_then x y z s t h l,
+    )
+    plays_then p q r rs qs s x y z (Err stop.Memory) g h (t, k, l) = (
+      s ++ t,
+      record {
+        given = g.given ++ k.given;
+        gained = history.then p q r g.given k.given g.gained k.gained;
+        begins = λ a taken. let (b, goes, next) = g.goes false k.given a taken in begins_then a b rs qs s t goes (k.begins b next);
+      },
+      grows_then x y z s t h l,
+    )
+    plays_then p q r rs qs s x y z (Err stop.Failed) g h (t, k, l) = (
+      s ++ t,
+      record {
+        given = g.given ++ k.given;
+        gained = history.then p q r g.given k.given g.gained k.gained;
+        is = λ a taken. let (b, goes, next) = g.goes true k.given a taken in is_then a b rs qs s t goes (k.is b next);
+        begins = λ a taken. let (b, goes, next) = g.goes false k.given a taken in begins_then a b rs qs s t goes (k.begins b next);
+      },
+      grows_then x y z s t h l,
+    )

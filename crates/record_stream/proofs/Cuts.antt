@@ -1,11 +1,9 @@
 -- Lines and records of bytes in two parts.
-use Rattle.std.proofs.Common.{refl, sym, ap, ◌∙◌, ◌≡◌, ◌≢◌, ◌+◌, ◌<◌, ℕ, List, [], ◌∷◌, ◌++◌, length, take, drop, ◌==◌, append-nil, inl, inr, get_or, take-append-drop}
+use Rattle.std.proofs.Common.{refl, sym, ap, ◌∙◌, ◌≡◌, ◌≢◌, ℕ, List, [], ◌∷◌, ◌++◌, take, drop, ◌==◌, append-nil, inl, inr, take-append-drop}
 use Rattle.std.proofs.lemmas.Bool.{cases_Bool}
-use Rattle.std.proofs.lemmas.Bool.Decides.{eqb_tells}
 use Rattle.std.proofs.lemmas.Grind.{flat_map-append}
-use Rattle.std.proofs.lemmas.List.{take_more}
 use Rattle.std.specs.List.{flat_map}
-use Rattle.record_stream.specs.Lines.{whole_lines, last_part, last_records, line_records, records_after}
+use Rattle.record_cutting.specs.Lines.{whole_lines, last_part, last_records, line_records, records_after}
 
 -- the lines of two parts: those of the first, and those that the second ends
 pub whole_lines-append : (p xs ys : List ℕ) → whole_lines p (xs ++ ys) ≡ whole_lines p xs ++ whole_lines (last_part p xs) ys

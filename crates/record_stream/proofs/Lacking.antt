@@ -1,12 +1,9 @@
 -- Bytes that lack one.
-use Rattle.std.proofs.Common.{arith, refl, sym, ap, ◌∙◌, ◌≡◌, ◌+◌, ◌<◌, ◌≤◌, ℕ, zero, suc, List, [], ◌∷◌, ◌++◌, length, take, drop, get_or, Bool, true, false, append-nil, append_assoc, inl, inr, ◌==◌}
-use Rattle.std.proofs.Common.{Option, Some, None, ◌&&◌, not, subst, add-one, ◌-◌, take-append-drop, drop-drop, slice_range}
-use lib.Seq.{take-add}
-use Rattle.std.proofs.lemmas.Bool.{and_parts, cases_Bool, eqb-true}
-use Rattle.std.proofs.lemmas.List.{length-take-le, take-take, take_all, take_more}
-use Rattle.record_stream.specs.Lines.{Record, last_part, line_records, records_after, whole_lines}
+use Rattle.std.proofs.Common.{arith, refl, sym, ap, ◌∙◌, ◌≡◌, ◌<◌, ◌≤◌, ℕ, zero, suc, List, [], ◌∷◌, ◌++◌, length, take, get_or, true, false, append-nil, append_assoc, inl, inr, ◌==◌}
+use Rattle.std.proofs.lemmas.Bool.{cases_Bool}
+use Rattle.record_cutting.specs.Lines.{Record, last_part, line_records, records_after, whole_lines}
 use Rattle.record_stream.specs.Plain.{cells}
-use Rattle.record_stream.proofs.Cuts.{last_part-append, last_part-feed, records_after-append, records_after-feed, records_after-split}
+use Rattle.record_stream.proofs.Cuts.{last_part-append, last_part-feed, records_after-append, records_after-feed}
 
 -- none of the first n bytes is b
 abbrev pub Lacks : ℕ → List ℕ → ℕ → Type 0

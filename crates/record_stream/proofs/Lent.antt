@@ -1,10 +1,9 @@
 -- Fields that are lent one by one.
-use Rattle.std.proofs.Common.{arith, refl, sym, ap, ◌∙◌, ◌≡◌, ◌+◌, ◌≤◌, ℕ, zero, suc, add-one, List, [], ◌∷◌, ◌++◌, length, take, Option, Some, None}
+use Rattle.std.proofs.Common.{refl, sym, ap, ◌∙◌, ◌≡◌, ◌+◌, ℕ, zero, suc, add-one, List, [], ◌∷◌, ◌++◌, take, Option, Some, None}
 use Rattle.std.specs.Borrow.{Bor}
 use Rattle.std.specs.Prelude.{option_map}
 use Rattle.csv.specs.Records.{field_at}
-use Rattle.std.proofs.lemmas.List.{take_all}
-use Rattle.record_stream.specs.Lines.{Record, record_of}
+use Rattle.record_cutting.specs.Lines.{Record, record_of}
 use Rattle.record_stream.proofs.Walks.{record_more}
 
 found_at : (fields : Record) (i : ℕ) (x : List ℕ) → field_at fields i ≡ Some x → take (suc i) fields ≡ take i fields ++ (x ∷ [])

@@ -1,7 +1,8 @@
 -- What a read puts into a buffer, and what of it is played.
-use Rattle.std.proofs.Common.{arith, sym, ap, ◌∙◌, ◌≡◌, ◌+◌, ◌≤◌, ◌<◌, min, ℕ, List, ◌++◌, length, take, drop, take-append-drop, length-append}
+use Rattle.std.proofs.Common.{arith, sym, ap, ◌∙◌, ◌≡◌, ◌+◌, ◌≤◌, ◌<◌, min, ℕ, List, ◌++◌, length, take, drop, take-append-drop, length-append, append_assoc, inl, inr}
 use Rattle.std.proofs.Math.Seq.{take-append_seam, take-append-add}
-use Rattle.std.proofs.lemmas.List.{length-take-le, take-take}
+use Rattle.std.proofs.lemmas.Bool.{cases_lt}
+use Rattle.std.proofs.lemmas.List.{length-take-le, take-take, take_all}
 use Rattle.record_stream.specs.Ends.{limit}
 
 -- a read fills the whole buffer, so nothing is left of what it held
@@ -28,3 +29,19 @@ piece_passes read buf count room full more bound =
       omega (arith, size, taken),
       ap (λ (n : ℕ). take n (read ++ take count buf)) (sym full) ∙ take-append-add read (take count buf) room ∙ ap (λ (l : List ℕ). read ++ l) first,
     )
+
+-- what is played of all that was read
+pub piece_limit : (read buf : List ℕ) (count room : ℕ) → length read + room ≡ limit → count ≤ length buf
+    → take limit ((read ++ take (min count room) buf) ++ drop (min count room) (take count buf)) ≡ read ++ take (min count room) buf
+piece_limit read buf count room full bound =
+    same ∙ elim (cases_lt room count) [
+      | inl more ↦ (piece_passes read buf count room full more bound).1
+      | inr few ↦
+          let all = piece_all buf count room few in
+          let size = length-append read (take count buf) in
+          let taken = length-take-le count buf bound in
+          take_all limit (read ++ take count buf) (omega (arith, size, taken)) ∙ ap (λ (l : List ℕ). read ++ l) (sym all)
+    ]
+  where
+    same : take limit ((read ++ take (min count room) buf) ++ drop (min count room) (take count buf)) ≡ take limit (read ++ take count buf)
+    same = ap (take limit) (append_assoc read (take (min count room) buf) (drop (min count room) (take count buf)) ∙ ap (λ (l : List ℕ). read ++ l) (piece_parts buf count room))

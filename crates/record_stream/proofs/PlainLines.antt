@@ -1,14 +1,12 @@
 -- What a reader makes of a plain line.
-use Rattle.std.proofs.Common.{arith, refl, sym, ap, ◌∙◌, ◌≡◌, ◌≢◌, ◌+◌, ◌-◌, ◌<◌, ◌≤◌, ◌⊎◌, ℕ, zero, suc, add-one, List, [], ◌∷◌, ◌++◌, length, take, drop, get_or, drop-cons, Option, Some, None, unwrap_or, slice_range, Bool, true, false, not, ◌==◌, ◌&&◌, append_assoc, append-nil, inl, inr}
+use Rattle.std.proofs.Common.{arith, refl, sym, ap, ◌∙◌, ◌≡◌, ℕ, zero, suc, add-one, List, [], ◌∷◌, ◌++◌, length, Some, Bool, true, false, not, ◌==◌, ◌&&◌, append_assoc, append-nil, inl, inr}
 use Rattle.std.proofs.lemmas.Bool.{cases_Bool}
-use Rattle.std.proofs.lemmas.List.{drop_all, length-drop, take_all}
-use Rattle.std.proofs.Math.Seq.{take-append_seam}
 use Rattle.csv.specs.Machine.{next_record, step}
 use Rattle.csv.specs.Reading.{default_config, records_from, strip_bom}
 use Rattle.csv.specs.declared.parser.Action.TheVariants as act
 use Rattle.csv.specs.declared.parser.State.{State}
 use Rattle.csv.specs.declared.parser.State.TheVariants as st
-use Rattle.record_stream.specs.Lines.{Record, line_records}
+use Rattle.record_cutting.specs.Lines.{Record, line_records}
 use Rattle.record_stream.proofs.Lacking.{Lacks}
 use Rattle.record_stream.specs.Plain.{IsEndedLine, cells, is_plain, is_plain_byte, plain_records}
 

@@ -3,7 +3,7 @@ use Rattle.std.proofs.Common.{arith, refl, sym, subst, ap, length-append, ◌≡
 use Rattle.std.proofs.lemmas.Bool.{cases_Bool}
 use Rattle.csv.specs.Machine.{Read, next_record, step, is_end, is_byte, ends_with, fields_after, field_after, ends_at_end, after_end, in_field, start_field, start_record}
 use Rattle.csv.specs.Reading.{AreRecords, Reached, records, records_from, records_next, default_config, is_bom, strip_bom}
-use Rattle.record_stream.specs.Lines.{line_records}
+use Rattle.record_cutting.specs.Lines.{line_records}
 use Rattle.csv.specs.declared.parser.Config.{Config}
 use Rattle.csv.specs.declared.parser.State.{State}
 use Rattle.csv.specs.declared.parser.State.TheVariants as st

@@ -1,13 +1,12 @@
 -- Places that are found from some place on, and the bytes before them.
-use Rattle.std.proofs.Common.{arith, refl, sym, ap, ap₂, subst, ◌∙◌, ◌≡◌, ◌≢◌, ◌+◌, ◌-◌, ◌<◌, ◌≤◌, ◌==◌, not, ℕ, zero, suc, List, [], ◌∷◌, ◌++◌, length, take, drop, get_or, slice_range, Bool, true, false, Option, Some, None, inl, inr, append_assoc, append-nil}
-use Rattle.std.specs.Prelude.{option_map, map, unwrap_or}
+use Rattle.std.proofs.Common.{arith, refl, sym, ap, ◌∙◌, ◌≡◌, ◌+◌, ◌-◌, ◌<◌, ◌≤◌, ◌==◌, not, ℕ, suc, List, [], ◌∷◌, ◌++◌, length, take, drop, get_or, slice_range, Bool, true, inl, inr, append_assoc, append-nil}
 use Rattle.std.specs.Borrow.{Bor}
 use Rattle.std.proofs.lemmas.Bool.{cases_Bool, or_right}
 use Rattle.std.proofs.lemmas.List.{drop-drop, get_or-drop, get_or-take, length-drop, length-take-le, map-append, take_all, take_more}
 use lib.Seq.{take-add}
 use Rattle.memchr.proofs.lemmas.FindLemmas.{Nowhere-then}
-use Rattle.memchr.specs.Find.{IsFirst, IsFirstByte, NoneBefore, Nowhere, Passes, is_byte}
-use Rattle.record_stream.specs.Lines.{Record, record_of}
+use Rattle.memchr.specs.Find.{NoneBefore, Nowhere, Passes, is_byte}
+use Rattle.record_cutting.specs.Lines.{Record, record_of}
 use Rattle.record_stream.specs.Plain.{cells, is_marked, is_plain, is_plain_byte}
 use Rattle.record_stream.proofs.Lacking.{Lacks, first, later, one_cell, take_lacks}
 

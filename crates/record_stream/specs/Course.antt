@@ -1,46 +1,89 @@
 -- What a player writes, said for whatever records follow.
-use Rattle.std.specs.Prelude.{ℕ, ◌≡◌, Bool, List, ◌++◌, Option, Some, Result, Ok, Err}
-use Rattle.std.specs.Io.KnownBytes.{Appends}
-use Rattle.svr_base.specs.Streams.{AppendsPrefix}
-use Rattle.record_stream.specs.Lines.{Record}
+use Rattle.std.specs.Prelude.{ℕ, ◌≡◌, Bool, true, false, List, [], ◌++◌, Option, Some, Result, Ok, Err}
+use Rattle.record_cutting.specs.Lines.{Record}
 use Rattle.record_stream.specs.declared.player.Stop.{Stop}
 use Rattle.record_stream.specs.declared.player.Stop.TheVariants as stop
-use Rattle.record_stream.specs.declared.player.Unwritten.{Unwritten}
-use Rattle.record_stream.specs.declared.player.Unwritten.TheVariants as unwritten
 
 -- the course of a player from some state: the text that it writes for records, with its closing lines or without
--- them, and why one of the records stops it, where one does
+-- them, why one of the records stops it, where one does, and whether they ask for all that the player is answered
 pub record Course (R : Type 0) : Type 0 where
   pub text : Bool → List Record → List ℕ
   pub reason : List Record → Option R
+  pub takes_all : List Record → Bool
+
+-- lines grow by a text
+abbrev pub Grows : (old new text : List ℕ) → Type 0
+Grows old new text = new ≡ old ++ text
+
+-- they grow by a text, or after an error by some first bytes of it
+abbrev pub Adds : {T E : Type 0} → List ℕ → (old new : List ℕ) → Result T E → Type 0
+Adds text old new (Ok done) = Grows old new text
+Adds text old new (Err e) = (written rest : List ℕ) × (text ≡ written ++ rest) × Grows old new written
 
 -- these records are played and write this text; what follows takes that course
 pub record Goes {R : Type 0} (a : Course R) (rs : List Record) (b : Course R) (written : List ℕ) : Type 0 where
   pub text : (closed : Bool) (more : List Record) → a.text closed (rs ++ more) ≡ written ++ b.text closed more
   pub reason : (more : List Record) → a.reason (rs ++ more) ≡ b.reason more
+  pub takes_all : (more : List Record) → a.takes_all (rs ++ more) ≡ b.takes_all more
 
 -- one of these records stops the player, and its text ends there, whatever follows
 pub record Stops {R : Type 0} (a : Course R) (rs : List Record) (why : R) (written : List ℕ) : Type 0 where
   pub text : (closed : Bool) (more : List Record) → a.text closed (rs ++ more) ≡ written
   pub reason : (more : List Record) → a.reason (rs ++ more) ≡ Some why
+  pub takes_all : (more : List Record) → a.takes_all (rs ++ more) ≡ true
 
 -- the text begins with these bytes, whatever follows
 pub record Begins {R : Type 0} (a : Course R) (rs : List Record) (written : List ℕ) : Type 0 where
   pub text : (closed : Bool) (more : List Record) → (rest : List ℕ) × (a.text closed (rs ++ more) ≡ written ++ rest)
 
--- what became of records, and what the sink gained by them
-abbrev pub PlaysTo : {R T : Type 0} → Course R → List Record → Course R → Option (List ℕ) → Option (List ℕ) → Result T (Stop R) → Type 0
-PlaysTo a rs b old new (Ok done) = (written : List ℕ) × Goes a rs b written × Appends old new written
-PlaysTo a rs b old new (Err (stop.Stopped why)) = (written : List ℕ) × Stops a rs why written × Appends old new written
-PlaysTo a rs b old new (Err stop.Memory) = (written : List ℕ) × Begins a rs written × Appends old new written
-PlaysTo a rs b old new (Err stop.WriteFault) = (written : List ℕ) × Begins a rs written × Appends old new written
+-- the text is this, whatever follows
+pub record Is {R : Type 0} (a : Course R) (rs : List Record) (written : List ℕ) : Type 0 where
+  pub text : (closed : Bool) (more : List Record) → a.text closed (rs ++ more) ≡ written
 
--- what an unwritten text makes of a record
-abbrev pub stop_by : {R : Type 0} → Unwritten → Stop R
-stop_by unwritten.Memory = stop.Memory
-stop_by unwritten.WriteFault = stop.WriteFault
+-- What courses a player may take from here on, by what it asks for itself: these answers come, and no others are asked for;
+-- or these come, and what is asked next fails.
+abbrev pub Outlook : Type 0 → Type 0 → Type 1
+Outlook R G = Bool → List G → Course R → Type 0
 
--- the sink gained this text, or after an error some first bytes of it
-abbrev pub Writes : {T : Type 0} → List ℕ → Option (List ℕ) → Option (List ℕ) → Result T Unwritten → Type 0
-Writes text old new (Ok done) = Appends old new text
-Writes text old new (Err e) = AppendsPrefix old new text
+-- what a player got for itself between two states, as a history does
+pub record IsHistory {S G : Type 0} (gains : S → S → List G → Type 0) : Type 0 where
+  pub none : (p : S) → gains p p []
+  pub then : (p q r : S) (gs hs : List G) → gains p q gs → gains q r hs → gains p r (gs ++ hs)
+
+-- of a player, what it got between two states and what courses it may take
+module _ {S R G : Type 0} (gains : S → S → List G → Type 0) (takes : S → Outlook R G) where
+  -- these records are played and write this text, on each course that the answers to come allow
+  pub record Advances (p : S) (rs : List Record) (q : S) (written : List ℕ) : Type 0 where
+    pub given : List G
+    pub gained : gains p q given
+    pub goes : (fails : Bool) (later : List G) (a : Course R) → takes p fails (given ++ later) a → (b : Course R) × Goes a rs b written × takes q fails later b
+
+  -- one of these records stops the player
+  pub record Halts (p : S) (rs : List Record) (q : S) (why : R) (written : List ℕ) : Type 0 where
+    pub given : List G
+    pub gained : gains p q given
+    pub stops : (a : Course R) → takes p false given a → Stops a rs why written
+
+  -- the text begins so
+  pub record Cuts (p : S) (rs : List Record) (q : S) (written : List ℕ) : Type 0 where
+    pub given : List G
+    pub gained : gains p q given
+    pub begins : (a : Course R) → takes p false given a → Begins a rs written
+
+  -- what the player asked for itself failed, and the text is exactly the one up to there
+  pub record Fails (p : S) (rs : List Record) (q : S) (written : List ℕ) : Type 0 where
+    pub given : List G
+    pub gained : gains p q given
+    pub is : (a : Course R) → takes p true given a → Is a rs written
+    pub begins : (a : Course R) → takes p false given a → Begins a rs written
+
+  -- what became of records, and by what text the lines grew
+  abbrev pub PlaysTo : {T : Type 0} → S → List Record → S → List ℕ → List ℕ → Result T (Stop R) → Type 0
+  PlaysTo p rs q old new (Ok done) = (written : List ℕ) × Advances p rs q written × Grows old new written
+  PlaysTo p rs q old new (Err (stop.Stopped why)) = (written : List ℕ) × Halts p rs q why written × Grows old new written
+  PlaysTo p rs q old new (Err stop.Memory) = (written : List ℕ) × Cuts p rs q written × Grows old new written
+  PlaysTo p rs q old new (Err stop.Failed) = (written : List ℕ) × Fails p rs q written × Grows old new written
+
+  -- the closing lines: one text, on each course
+  pub record Closes (p : S) (text : List ℕ) : Type 0 where
+    pub text_is : (fails : Bool) (a : Course R) → takes p fails [] a → a.text true [] ≡ text

@@ -1,6 +1,6 @@
 -- How the cutting of a line ends.
 use Rattle.std.specs.Prelude.{ℕ, ◌≡◌, ◌≢◌, ◌+◌, ◌<◌, ◌≤◌, true, false, List, [], length, drop, slice_index, slice_range}
-use Rattle.record_stream.specs.Lines.{Record}
+use Rattle.record_cutting.specs.Lines.{Record}
 use Rattle.record_stream.specs.Plain.{cells, is_plain, is_plain_byte}
 use Rattle.record_stream.specs.declared.cutter.Cut.{Cut}
 use Rattle.record_stream.specs.declared.cutter.Cut.TheVariants as cut

@@ -1,15 +1,15 @@
 -- How the playing of a source ends.
-use Rattle.std.specs.Prelude.{ℕ, ◌≡◌, ◌≤◌, ◌<◌, true, false, List, [], ◌++◌, length, take, Option, Some, None}
-use Rattle.std.specs.Io.KnownBytes.{Appends, Consumes}
-use Rattle.svr_base.specs.Streams.{AppendsPrefix}
-use Rattle.record_stream.specs.Lines.{records_of, whole_records}
-use Rattle.record_stream.specs.Course.{Course}
+use Rattle.std.specs.Prelude.{ℕ, ◌≡◌, ◌≢◌, ◌≤◌, ◌<◌, ◌⊎◌, true, false, List, [], ◌++◌, length, take, Option, Some, None}
+use Rattle.std.specs.Io.KnownBytes.{Appends, Consumes, IsAtEnd}
+use Rattle.record_cutting.specs.Lines.{Record, records_of, whole_records}
+use Rattle.record_stream.specs.Course.{Course, Outlook}
+use Rattle.values.specs.declared.limits.TheConstants.{MAX_SOURCE}
 use Rattle.record_stream.specs.declared.source.Ended.{Ended}
 use Rattle.record_stream.specs.declared.source.Ended.TheVariants as ended
 
 -- the most bytes that are played
 abbrev pub limit : ℕ
-limit = 67108864
+limit = MAX_SOURCE
 
 -- the most bytes of one read
 abbrev pub piece_size : ℕ
@@ -24,25 +24,61 @@ pub record ReadAhead {R : Type 0} (a : Course R) (read written : List ℕ) : Typ
   pub short : length piece ≤ piece_size
   pub gained : written ≡ a.text false (whole_records before) ++ rest
 
+-- these are first bytes of a text
+abbrev pub IsFrontOf : (written text : List ℕ) → Type 0
+IsFrontOf written text = (rest : List ℕ) × (text ≡ written ++ rest)
+
+-- these are first bytes of the lines of the records that stand whole in the bytes read, as far as they are played, or,
+-- where all was read, of these and the closing lines
+abbrev pub IsOfRead : {R : Type 0} → Course R → (read : List ℕ) → Option (List ℕ) → List ℕ → Type 0
+IsOfRead a read left written =
+    IsFrontOf written (a.text false (whole_records (take limit read)))
+    ⊎ (IsAtEnd left × (length read ≤ limit) × IsFrontOf written (a.text true (records_of read)))
+
+-- the sink gained such bytes, and all lines but those that the last piece ended
+pub record CutOff {R : Type 0} (a : Course R) (read : List ℕ) (left old new : Option (List ℕ)) : Type 0 where
+  pub written : List ℕ
+  pub of_read : IsOfRead a read left written
+  pub ahead : ReadAhead a read written
+  pub gained : Appends old new written
+
+-- no record stopped the player, or one did for this reason; and they asked for all that it was answered
+abbrev pub Unstopped : {R : Type 0} → Course R → List Record → Type 0
+Unstopped a rs = (a.reason rs ≡ None) × (a.takes_all rs ≡ true)
+
+abbrev pub StoppedFor : {R : Type 0} → Course R → List Record → R → Type 0
+StoppedFor a rs why = (a.reason rs ≡ Some why) × (a.takes_all rs ≡ true)
+
 -- how the playing of a source ended that held all these bytes, with what the source has left and what the sink gained
 abbrev pub EndsOver : {R : Type 0} → Course R → List ℕ → Option (List ℕ) → Option (List ℕ) → Option (List ℕ) → Ended R → Type 0
 EndsOver a all left old new ended.Done =
-    (left ≡ Some []) × (length all ≤ limit) × (a.reason (records_of all) ≡ None) × Appends old new (a.text true (records_of all))
+    (left ≡ Some []) × (length all ≤ limit) × Unstopped a (records_of all) × Appends old new (a.text true (records_of all))
 EndsOver a all left old new (ended.Stopped why) =
-    (a.reason (records_of all) ≡ Some why) × Appends old new (a.text true (records_of all))
+    StoppedFor a (records_of all) why × Appends old new (a.text true (records_of all))
 EndsOver a all left old new ended.ReadFault =
     (read : List ℕ) × Consumes (Some all) left read
     × (a.reason (whole_records read) ≡ None) × Appends old new (a.text false (whole_records read))
 EndsOver a all left old new ended.Limit =
     (limit < length all)
     × (a.reason (whole_records (take limit all)) ≡ None) × Appends old new (a.text false (whole_records (take limit all)))
-EndsOver a all left old new ended.WriteFault =
-    (read written rest : List ℕ) × Consumes (Some all) left read × ReadAhead a read written
-    × (a.text true (records_of all) ≡ written ++ rest) × Appends old new written
-EndsOver a all left old new ended.Memory =
-    AppendsPrefix old new (a.text true (records_of all))
+EndsOver a all left old new ended.WriteFault = (read : List ℕ) × Consumes (Some all) left read × CutOff a read left old new
+EndsOver a all left old new ended.Memory = (read : List ℕ) × Consumes (Some all) left read × CutOff a read left old new
+EndsOver a all left old new ended.Failed = (read : List ℕ) × Consumes (Some all) left read × CutOff a read left old new
 
 -- how it ends where nothing but the records decides
 abbrev pub ended_for : {R : Type 0} → Option R → Ended R
 ended_for None = ended.Done
 ended_for (Some why) = ended.Stopped why
+
+-- no fault and no want of memory ended it
+abbrev pub CanDecide : {R : Type 0} → Ended R → Type 0
+CanDecide result = (result ≢ ended.Memory) × ((result ≢ ended.ReadFault) × ((result ≢ ended.WriteFault) × (result ≢ ended.Failed)))
+
+-- How the playing ended of a player, by what it got for itself: on each course that these answers allow; and where what it
+-- asked failed, the text is exactly the one up to there.
+pub record PlayedOver {S R G : Type 0} (gains : S → S → List G → Type 0) (takes : S → Outlook R G) (p q : S) (all : List ℕ) (left old new : Option (List ℕ)) (result : Ended R) : Type 0 where
+  pub given : List G
+  pub gained : gains p q given
+  pub ends : (a : Course R) → takes p false given a → EndsOver a all left old new result
+  pub fails : result ≡ ended.Failed → (a : Course R) → takes p true given a → Appends old new (a.text true (records_of all))
+  pub reason : (a : Course R) → takes p false given a → length all ≤ limit → CanDecide result → result ≡ ended_for (a.reason (records_of all))

@@ -1,5 +1,5 @@
-pub mod Lines
 pub mod Course
+pub mod Alone
 pub mod Ends
 pub mod Steps
 pub mod Plain

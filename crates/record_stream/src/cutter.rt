@@ -2,7 +2,7 @@
 ghost use Rattle.std.specs.Prelude.{◌≡◌, ◌+◌, ◌≤◌, length, IfOk, IfSome};
 ghost use Rattle.memchr.specs.Find.{NoneBefore, Nowhere, Passes};
 ghost use Rattle.std.specs.Option.{MatchOption};
-ghost use Rattle.record_stream.specs.Lines.{record_of};
+ghost use Rattle.record_cutting.specs.Lines.{record_of};
 ghost use Rattle.record_stream.specs.Plain.{is_marked, is_plain_byte};
 ghost use Rattle.record_stream.specs.Walk.{IsWalk};
 ghost use Rattle.record_stream.specs.Cut.{Cuts};

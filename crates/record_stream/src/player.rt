@@ -1,102 +1,92 @@
 //! What plays records.
-ghost use Rattle.std.specs.Prelude.{◌≡◌, ◌∷◌, ◌+◌, ◌<◌, ◌^◌, ℕ, [], true, false, None, OnOk};
-ghost use Rattle.svr_base.specs.Causes.{HasCauseAt};
-ghost use Rattle.record_stream.specs.Course.{Course, PlaysTo, Writes, stop_by};
-ghost use Rattle.record_stream.specs.Lines.{record_of};
-ghost use Rattle.record_stream.specs.declared.player.Unwritten.TheVariants as unwritten;
+ghost use Rattle.std.specs.Prelude.{◌≡◌, ◌∷◌, ◌+◌, ◌<◌, ◌≤◌, ◌^◌, ℕ, Bool, List, [], true, false, None, OnOk};
+ghost use Rattle.byte_streams.specs.Causes.{HasCauseAt};
+ghost use Rattle.record_stream.specs.Course.{Adds, Closes, Course, IsHistory, Outlook, PlaysTo};
+ghost use Rattle.record_cutting.specs.Lines.{record_of};
+ghost use Rattle.record_stream.specs.declared.player.Stop.TheVariants as stop;
 
-use std::alloc::{AllocError, AllocFailed};
-use svr_base::{Failed, Memory, Sink};
-
-/// Why a text was not written whole.
-#[derive(Clone, Copy, Debug, PartialEq, Eq)]
-pub enum Unwritten {
-    /// Want of memory for the text.
-    Memory,
-    /// The sink failed.
-    WriteFault,
-}
-
-impl From<AllocError> for Unwritten {
-    ghost from_gives = { λ _ e. e ≡ unwritten.Memory };
-
-    fn from(_error: AllocError) -> Unwritten {
-        Unwritten::Memory
-    }
-}
-
-impl<T: Drop> From<AllocFailed<T>> for Unwritten {
-    ghost from_gives = { λ _ e. e ≡ unwritten.Memory };
-
-    fn from(_error: AllocFailed<T>) -> Unwritten {
-        Unwritten::Memory
-    }
-}
-
-impl From<Memory> for Unwritten {
-    ghost from_gives = { λ _ e. e ≡ unwritten.Memory };
-
-    fn from(_error: Memory) -> Unwritten {
-        Unwritten::Memory
-    }
-}
-
-impl From<Failed> for Unwritten {
-    ghost from_gives = { λ _ e. e ≡ unwritten.WriteFault };
-
-    fn from(_error: Failed) -> Unwritten {
-        Unwritten::WriteFault
-    }
-}
+use std::alloc::AllocError;
+use svr_base::Memory;
 
 /// Why playing ended before the records did.
 #[derive(Clone, Copy, Debug, PartialEq, Eq)]
 pub enum Stop<R> {
     /// Want of memory.
     Memory,
-    /// A record stops the player for this reason, and what is to be said of it was written.
+    /// A record stops the player for this reason, and what is to be said of it was appended.
     Stopped(R),
-    /// The sink failed.
-    WriteFault,
+    /// What the player asked for itself failed.
+    Failed,
 }
 
-impl<R> From<Unwritten> for Stop<R> {
-    ghost from_gives = { λ e s. s ≡ stop_by e };
+impl<R> From<AllocError> for Stop<R> {
+    ghost from_gives = { λ _ s. s ≡ stop.Memory };
 
-    fn from(error: Unwritten) -> Stop<R> {
-        match error {
-            Unwritten::Memory => Stop::Memory,
-            Unwritten::WriteFault => Stop::WriteFault,
-        }
+    fn from(_error: AllocError) -> Stop<R> {
+        Stop::Memory
     }
 }
 
-/// A state that plays records.
+impl<R> From<Memory> for Stop<R> {
+    ghost from_gives = { λ _ s. s ≡ stop.Memory };
+
+    fn from(_error: Memory) -> Stop<R> {
+        Stop::Memory
+    }
+}
+
+/// A state that plays records. It appends what they say to lines, which are written for it.
+///
+/// After an error it is not asked again. What stands then is what it appended and what it was answered.
 pub trait Player {
     /// Why a record stops it.
     type Reason: Drop;
 
-    /// What it writes from here on, whatever records follow.
-    ghost course: { Self → Course Self.Reason };
+    // What it is answered where it asks for something itself.
+    ghost Given: { Type 0 };
+
+    // What it may write from here on, whatever records follow, by what it is then answered.
+    ghost takes: { Self → Outlook Self.Reason Given };
+
+    // What it was answered between two states.
+    ghost gains: { Self → Self → List Given → Type 0 };
+
+    // That it may be asked: it has not answered an error yet.
+    ghost live: { Self → Type 0 };
+
+    /// How many faults there were in what it asked for itself.
+    ghost own_faults: { Self → ℕ };
 
     /// How many records it has played.
     ghost count: { Self → ℕ };
 
-    /// Plays the record of these fields and writes what it says.
-    fn play<K: Sink>(&mut self, fields: &[&[u8]], sink: &mut K) -> Result<(), Stop<Self::Reason>>
-        requires { count self.old < 2 ^ 62 }
-        ensures plays { PlaysTo (course self.old) (record_of fields.now ∷ []) (course self.new) (K.taken sink.old) (K.taken sink.new) result }
+    /// Plays the record of these fields and appends what it says.
+    ///
+    /// After want of memory some first bytes of that were appended; after any other error all of it was.
+    fn play(&mut self, fields: &[&[u8]], lines: &mut Vec<u8>) -> Result<(), Stop<Self::Reason>>
+        requires live { live self.old }
+        requires count { count self.old < 2 ^ 62 }
+        ensures plays { PlaysTo gains takes self.old (record_of fields.now ∷ []) self.new lines.old.items lines.new.items result }
         ensures counted { OnOk result (count self.new ≡ count self.old + 1) }
-        ensures cause { HasCauseAt Stop.WriteFault (K.faults sink.old) (K.faults sink.new) result };
+        ensures own_cause { HasCauseAt Stop.Failed (own_faults self.old) (own_faults self.new) result }
+        ensures live { OnOk result (live self.new) };
 
-    /// Writes the closing lines, after the last record.
-    fn close<K: Sink>(&mut self, sink: &mut K) -> Result<(), Unwritten>
-        ensures writes { Writes ((course self.old).text true []) (K.taken sink.old) (K.taken sink.new) result }
-        ensures cause { HasCauseAt Unwritten.WriteFault (K.faults sink.old) (K.faults sink.new) result };
+    /// Appends the closing lines, after the last record. After an error some first bytes of them were appended.
+    fn close(&mut self, lines: &mut Vec<u8>) -> Result<(), Memory>
+        requires live { live self.old }
+        ensures adds { (text : List ℕ) × Closes gains takes self.old text × Adds text lines.old.items lines.new.items result }
+        ensures gained { gains self.old self.new [] }
+        ensures own_cause { own_faults self.old ≤ own_faults self.new };
 
     /// No records and no closing lines: nothing is written.
-    ghost nothing: { (p : Self) → (course p).text false [] ≡ [] };
+    ghost nothing: { (p : Self) (fails : Bool) (given : List Given) (a : Course Self.Reason) → takes p fails given a → a.text false [] ≡ [] };
 
     /// No records: none of them stops it.
-    ghost unstopped: { (p : Self) → (course p).reason [] ≡ None };
+    ghost unstopped: { (p : Self) (fails : Bool) (given : List Given) (a : Course Self.Reason) → takes p fails given a → a.reason [] ≡ None };
+
+    /// No records and no answers: all are asked for.
+    ghost spent: { (p : Self) (a : Course Self.Reason) → takes p false [] a → a.takes_all [] ≡ true };
+
+    /// What it was answered makes one history.
+    ghost history: { IsHistory gains };
 }

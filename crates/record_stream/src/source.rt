@@ -1,22 +1,19 @@
 //! The source is read in pieces, and each is played before the next is read.
-ghost use Rattle.std.specs.Prelude.{◌≡◌, ◌≢◌, ◌+◌, ◌<◌, ◌≤◌, ◌^◌, ℕ, List, length, IfSome};
-ghost use Rattle.std.specs.Io.KnownBytes.{Consumes};
-ghost use Rattle.svr_base.specs.Causes.{HasCauseAt, Rose};
+ghost use Rattle.std.specs.Prelude.{◌≡◌, ◌≢◌, ◌+◌, ◌<◌, ◌≤◌, ◌^◌, ℕ, List, [], length, IfSome, OnOk};
+ghost use Rattle.std.specs.Io.KnownBytes.{Appends, Consumes};
+ghost use Rattle.byte_streams.specs.Causes.{HasCauseAt, Rose};
 ghost use Rattle.record_stream.specs.Course.{PlaysTo};
-ghost use Rattle.record_stream.specs.Lines.{last_records, records_of};
-ghost use Rattle.record_stream.specs.Ends.{EndsOver, ended_for, limit};
+ghost use Rattle.record_cutting.specs.Lines.{last_records};
+ghost use Rattle.record_stream.specs.Ends.{PlayedOver};
 ghost use Rattle.record_stream.specs.Steps as spec;
 
 use crate::lines::{play_alone, take_piece};
-use crate::player::{Player, Stop, Unwritten};
+use crate::player::{Player, Stop};
 use std::alloc::Global;
-use svr_base::{Sink, Source};
+use svr_base::{MAX_SOURCE, Sink, Source, write_all};
 
 /// The most bytes of one read.
 const PIECE: usize = 65_536;
-
-/// The most bytes that are played.
-const LIMIT: usize = 67_108_864;
 
 /// How the playing of a source ended.
 #[derive(Clone, Copy, Debug, PartialEq, Eq)]
@@ -31,8 +28,10 @@ pub enum Ended<R> {
     ReadFault,
     /// The sink failed.
     WriteFault,
-    /// The source holds more than 67,108,864 bytes.
+    /// The source holds more than [`MAX_SOURCE`] bytes.
     Limit,
+    /// What the player asked for itself failed.
+    Failed,
 }
 
 /// What a player's stop makes of the whole.
@@ -42,59 +41,88 @@ fn ended_by<R>(stop: Stop<R>) -> Ended<R>
     match stop {
         Stop::Memory => Ended::Memory,
         Stop::Stopped(why) => Ended::Stopped(why),
-        Stop::WriteFault => Ended::WriteFault,
+        Stop::Failed => Ended::Failed,
     }
 }
 
 /// Plays what follows the last line feed, which is a line where it is not empty.
-fn play_last<P: Player, K: Sink>(
+fn play_last<P: Player>(
     alloc: Global,
     player: &mut P,
     rest: &[u8],
-    sink: &mut K,
+    lines: &mut Vec<u8>,
 ) -> Result<(), Stop<P::Reason>>
-    requires { P.count player.old + length rest.now + 1 < 2 ^ 62 }
-    ensures plays { PlaysTo (P.course player.old) (last_records rest.now) (P.course player.new) (K.taken sink.old) (K.taken sink.new) result }
-    ensures cause { HasCauseAt Stop.WriteFault (K.faults sink.old) (K.faults sink.new) result }
+    requires count { P.count player.old + length rest.now + 1 < 2 ^ 62 }
+    requires live { P.live player.old }
+    ensures plays { PlaysTo P.gains P.takes player.old (last_records rest.now) player.new lines.old.items lines.new.items result }
+    ensures own_cause { HasCauseAt Stop.Failed (P.own_faults player.old) (P.own_faults player.new) result }
+    ensures live { OnOk result (P.live player.new) }
 {
     if rest.is_empty() {
         return Ok(());
     }
-    play_alone(alloc, player, rest, sink)
+    play_alone(alloc, player, rest, lines)
 }
 
-/// Plays what follows the last line feed, and writes the closing lines.
+/// Gathers what follows the last line feed says, and the closing lines.
+fn last_lines<P: Player>(
+    alloc: Global,
+    player: &mut P,
+    rest: &[u8],
+    lines: &mut Vec<u8>,
+) -> Result<(), Stop<P::Reason>>
+    requires count { P.count player.old + length rest.now + 1 < 2 ^ 62 }
+    requires live { P.live player.old }
+    requires none { lines.old.items ≡ [] }
+    ensures last { spec.LastFrom P.gains P.takes player.old (last_records rest.now) player.new lines.new.items result }
+    ensures own_cause { HasCauseAt Stop.Failed (P.own_faults player.old) (P.own_faults player.new) result }
+{
+    play_last(alloc, player, rest, lines)?;
+    player.close(lines)?;
+    Ok(())
+}
+
+/// Plays what follows the last line feed, and writes its lines and the closing ones, however they end.
 fn finish<P: Player, K: Sink>(
     alloc: Global,
     player: &mut P,
     rest: &[u8],
+    lines: &mut Vec<u8>,
     sink: &mut K,
 ) -> Ended<P::Reason>
-    requires { P.count player.old + length rest.now + 1 < 2 ^ 62 }
-    ensures ends { spec.Finishes (P.course player.old) (last_records rest.now) (K.taken sink.old) (K.taken sink.new) result }
+    requires count { P.count player.old + length rest.now + 1 < 2 ^ 62 }
+    requires live { P.live player.old }
+    requires none { lines.old.items ≡ [] }
+    ensures ends { spec.FinishesFrom P.gains P.takes player.old (last_records rest.now) player.new (K.taken sink.old) (K.taken sink.new) result }
+    ensures gathered { result ≢ Ended.WriteFault → Appends (K.taken sink.old) (K.taken sink.new) lines.new.items }
+    ensures own_later { P.own_faults player.old ≤ P.own_faults player.new }
+    ensures own_cause { result ≡ Ended.Failed → Rose (P.own_faults player.old) (P.own_faults player.new) }
     ensures later { K.faults sink.old ≤ K.faults sink.new }
     ensures cause { result ≡ Ended.WriteFault → Rose (K.faults sink.old) (K.faults sink.new) }
 {
-    if let Err(stop) = play_last(alloc, player, rest, sink) {
-        return ended_by(stop);
-    }
-    match player.close(sink) {
+    let played = last_lines(alloc, player, rest, lines);
+    let Ok(()) = write_all(sink, lines.as_slice()) else {
+        return Ended::WriteFault;
+    };
+    match played {
         Ok(()) => Ended::Done,
-        Err(Unwritten::Memory) => Ended::Memory,
-        Err(Unwritten::WriteFault) => Ended::WriteFault,
+        Err(stop) => ended_by(stop),
     }
 }
 
-/// Plays all that the source holds, piece by piece.
+/// Plays all that the source holds, piece by piece. The room of the lines is kept from piece to piece.
 fn play_pieces<P: Player, S: Source, K: Sink>(
     alloc: Global,
     player: &mut P,
     source: &mut S,
     sink: &mut K,
 ) -> Ended<P::Reason>
-    requires { P.count player.old ≡ 0 }
+    requires count { P.count player.old ≡ 0 }
+    requires live { P.live player.old }
     ensures ends { (read : List ℕ) × Consumes (S.left source.old) (S.left source.new) read
-        × spec.EndsAfter (P.course player.old) read (S.left source.new) (K.taken sink.old) (K.taken sink.new) result }
+        × spec.EndsFrom P.gains P.takes player.old player.new read (S.left source.new) (K.taken sink.old) (K.taken sink.new) result }
+    ensures own_later { P.own_faults player.old ≤ P.own_faults player.new }
+    ensures own_cause { result ≡ Ended.Failed → Rose (P.own_faults player.old) (P.own_faults player.new) }
     ensures read_later { S.faults source.old ≤ S.faults source.new }
     ensures write_later { K.faults sink.old ≤ K.faults sink.new }
     ensures read_cause { result ≡ Ended.ReadFault → Rose (S.faults source.old) (S.faults source.new) }
@@ -104,16 +132,22 @@ fn play_pieces<P: Player, S: Source, K: Sink>(
         return Ended::Memory;
     };
     let mut pending = Vec::new(alloc);
-    let mut room = LIMIT;
+    let mut lines = Vec::new(alloc);
+    let mut room = MAX_SOURCE;
     loop {
         let Ok(count) = source.read(buffer.as_mut_slice()) else {
             return Ended::ReadFault;
         };
+        lines.clear();
         if count == 0 {
-            return finish(alloc, player, pending.as_slice(), sink);
+            return finish(alloc, player, pending.as_slice(), &mut lines, sink);
         }
         let piece = &buffer[..count.min(room)];
-        if let Err(stop) = take_piece(alloc, player, &mut pending, piece, sink) {
+        let played = take_piece(alloc, player, &mut pending, piece, &mut lines);
+        let Ok(()) = write_all(sink, lines.as_slice()) else {
+            return Ended::WriteFault;
+        };
+        if let Err(stop) = played {
             return ended_by(stop);
         }
         if count > room {
@@ -123,8 +157,9 @@ fn play_pieces<P: Player, S: Source, K: Sink>(
     }
 }
 
-/// Plays all that the source holds: the records of each whole line, and what they write, before the source is
-/// read again, and then what follows the last line feed and the closing lines.
+/// Plays all that the source holds: the records of each whole line before the source is read again, and then what
+/// follows the last line feed and the closing lines. The lines of all records that one read ends are written
+/// together before the next read, and before the end, however it comes.
 ///
 /// Reads at most 65,536 bytes at once and plays at most 67,108,864. Want of memory is the one free end.
 pub fn play_source<P: Player, S: Source, K: Sink>(
@@ -133,22 +168,20 @@ pub fn play_source<P: Player, S: Source, K: Sink>(
     source: &mut S,
     sink: &mut K,
 ) -> Ended<P::Reason>
-    requires { P.count player.old ≡ 0 }
+    requires count { P.count player.old ≡ 0 }
+    requires live { P.live player.old }
 
     // How it ended over a source that tells.
     ensures ends { IfSome (S.left source.old) (λ all.
-        EndsOver (P.course player.old) all (S.left source.new) (K.taken sink.old) (K.taken sink.new) result) }
-
-    // Without a fault, and with memory, the records decide.
-    ensures decided { IfSome (S.left source.old) (λ all. length all ≤ limit
-        → ¬ Rose (S.faults source.old) (S.faults source.new) → ¬ Rose (K.faults sink.old) (K.faults sink.new)
-        → result ≢ Ended.Memory → result ≡ ended_for ((P.course player.old).reason (records_of all))) }
+        PlayedOver P.gains P.takes player.old player.new all (S.left source.new) (K.taken sink.old) (K.taken sink.new) result) }
 
     // A fault has its cause, and no count falls.
     ensures read_cause { result ≡ Ended.ReadFault → Rose (S.faults source.old) (S.faults source.new) }
     ensures write_cause { result ≡ Ended.WriteFault → Rose (K.faults sink.old) (K.faults sink.new) }
     ensures read_later { S.faults source.old ≤ S.faults source.new }
     ensures write_later { K.faults sink.old ≤ K.faults sink.new }
+    ensures own_later { P.own_faults player.old ≤ P.own_faults player.new }
+    ensures own_cause { result ≡ Ended.Failed → Rose (P.own_faults player.old) (P.own_faults player.new) }
 {
     play_pieces(alloc, player, source, sink)
 }

@@ -2,21 +2,19 @@
 use Rattle.std.proofs.Common.{◌≡◌, ℕ, ◌-◌, ◌^◌, true, false, List, [], ◌∷◌, replicate, Some, None, Ok, Err, refl}
 use Rattle.std.specs.Prelude.{Bool, Option, Result, codes}
 use Rattle.std.specs.Fmt.{digits}
-use Rattle.csv.proofs.OnLiterals.{csv_on_literals}
 use Rattle.hex.proofs.OnLiterals.{hex_on_literals}
-use Rattle.svr_base.specs.declared.event.Cause.{Cause}
-use Rattle.svr_base.specs.declared.event.Cause.TheVariants as cause
-use Rattle.svr_base.specs.declared.event.Event.{Event}
-use Rattle.svr_base.specs.declared.event.Event.TheVariants as event
-use Rattle.svr_base.specs.declared.ids.ClientId.{ClientId}
-use Rattle.svr_base.specs.declared.message.Answer.TheVariants.{Outcome}
-use Rattle.svr_base.specs.declared.message.Reply.TheVariants.{Applied, Stale}
-use Rattle.svr_base.specs.declared.message.Response.TheVariants.{Backup, Expose}
-use Rattle.svr_base.specs.declared.want.Report.TheVariants as report
-use Rattle.svr_base.specs.declared.want.Want.{Want}
-use Rattle.svr_base.specs.declared.want.Want.TheVariants as want
-use Rattle.svr_base.specs.declared.want.WantFault.TheVariants as fault
-use Rattle.schedule_model.specs.Cutting.{lines_with, records_of, whole_records}
+use Rattle.values.specs.declared.event.Cause.{Cause}
+use Rattle.values.specs.declared.event.Cause.TheVariants as cause
+use Rattle.values.specs.declared.event.Event.{Event}
+use Rattle.values.specs.declared.event.Event.TheVariants as event
+use Rattle.values.specs.declared.ids.ClientId.{ClientId}
+use Rattle.values.specs.declared.message.Answer.TheVariants.{Outcome}
+use Rattle.values.specs.declared.message.Reply.TheVariants.{Applied, Stale}
+use Rattle.values.specs.declared.message.Response.TheVariants.{Backup, Expose}
+use Rattle.values.specs.declared.want.Report.TheVariants as report
+use Rattle.values.specs.declared.want.Want.{Want}
+use Rattle.values.specs.declared.want.Want.TheVariants as want
+use Rattle.values.specs.declared.want.WantFault.TheVariants as fault
 use Rattle.schedule_model.specs.Reading.{RecordFault}
 use Rattle.schedule_model.specs.Records.{event_of}
 use Rattle.schedule_model.specs.Lines.{event_line, line_text}
@@ -24,17 +22,8 @@ use Rattle.schedule_model.specs.Client.{Core, new_core, wanted, heard}
 
 -- what texts are read and written with
 unfoldable reading : Unit {0}
-unfolding digits csv_on_literals hex_on_literals lines_with line_text
+unfolding digits hex_on_literals line_text
 reading = tt
-
--- the last line counts, unless whole lines alone do
-last_line : records_of (codes "tick,1\nsave") ≡ (codes "tick" ∷ codes "1" ∷ []) ∷ (codes "save" ∷ []) ∷ []
-unfolding reading
-last_line = refl
-
-whole_line : whole_records (codes "tick,1\nsave") ≡ (codes "tick" ∷ codes "1" ∷ []) ∷ []
-unfolding reading
-whole_line = refl
 
 abbrev fault_at : Cause → ℕ → Result (Option Event) RecordFault
 fault_at cause field = Err (record { cause = cause; field = field })

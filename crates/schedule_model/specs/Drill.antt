@@ -2,12 +2,13 @@
 use Rattle.std.specs.Prelude.{ℕ, zero, suc, ◌+◌, ◌-◌, ◌*◌, ◌%◌, ◌==◌, if◌then◌else◌, List, [], ◌∷◌, ◌++◌, replicate}
 use Rattle.std.specs.Int.{w64, to_be_bytes}
 use Rattle.rand_chacha.specs.ChaCha.{word_at, key_of}
-use Rattle.svr_base.specs.declared.entry.Hash.{Hash}
-use Rattle.svr_base.specs.declared.event.Event.{Event}
-use Rattle.svr_base.specs.declared.event.Event.TheVariants as event
-use Rattle.svr_base.specs.declared.ids.ClientId.{ClientId}
-use Rattle.svr_base.specs.declared.want.Want.{Want}
-use Rattle.svr_base.specs.declared.want.Want.TheVariants as want
+use Rattle.values.specs.declared.limits.TheConstants.{MOST_ROWS}
+use Rattle.values.specs.declared.entry.Hash.{Hash}
+use Rattle.values.specs.declared.event.Event.{Event}
+use Rattle.values.specs.declared.event.Event.TheVariants as event
+use Rattle.values.specs.declared.ids.ClientId.{ClientId}
+use Rattle.values.specs.declared.want.Want.{Want}
+use Rattle.values.specs.declared.want.Want.TheVariants as want
 
 -- word i, from 0, of ChaCha8 (4 double rounds), whose key is the seed as 8 bytes, high byte first, and 24 zero bytes
 abbrev pub word : ℕ → ℕ → ℕ
@@ -59,7 +60,7 @@ all_wish seed (suc n) i a = wishes i a (word seed (i - 1)) ++ all_wish seed n (i
 -- the events of the drill of a seed and a number of clients
 abbrev pub drill_events : ℕ → ℕ → List Event
 drill_events seed clients =
-    event.Begin 1 20000 (1 ∷ 2 ∷ 3 ∷ 4 ∷ 5 ∷ [])
+    event.Begin 1 MOST_ROWS (1 ∷ 2 ∷ 3 ∷ 4 ∷ 5 ∷ [])
     ∷ event.Tick 1
     ∷ event.Settle 32
     ∷ (all_store clients 1 1 ++ all_wish seed clients 1 (2 * clients + 1))

@@ -2,33 +2,35 @@
 use Rattle.std.specs.Prelude.{ℕ, Bool, true, false, if◌then◌else◌, List, [], ◌∷◌, ◌++◌, map, length, flat_map, option_map, option_to_list, codes, decimal, Option}
 use Rattle.std.specs.List.{join_with_byte, enumerate_from}
 use Rattle.hex.specs.Hex.{encode_lower}
-use Rattle.svr_base.specs.declared.batch.Batch.{Batch}
-use Rattle.svr_base.specs.declared.batch.Refusal.{Refusal}
-use Rattle.svr_base.specs.declared.batch.Refusal.TheVariants.{NotLeader, ChangePending, AlreadyVoter, NotVoter, TooFew, TooMany, NotCaughtUp, NoLink, LogFull, NoState, NotForMe, BadPeer, SameMargin}
-use Rattle.svr_base.specs.declared.entry.Body.{Body}
-use Rattle.svr_base.specs.declared.entry.Body.TheVariants as body
-use Rattle.svr_base.specs.declared.entry.Hash.{Hash}
-use Rattle.svr_base.specs.declared.entry.LogEntry.{LogEntry}
-use Rattle.svr_base.specs.declared.entry.Point.{Point}
-use Rattle.svr_base.specs.declared.event.Cause.{Cause}
-use Rattle.svr_base.specs.declared.event.Cause.TheVariants as cause
-use Rattle.svr_base.specs.declared.event.Event.{Event}
-use Rattle.svr_base.specs.declared.event.Event.TheVariants as event
-use Rattle.svr_base.specs.declared.ids.ClientId.{ClientId}
-use Rattle.svr_base.specs.declared.message.Answer.{Answer}
-use Rattle.svr_base.specs.declared.message.Answer.TheVariants as answer
-use Rattle.svr_base.specs.declared.message.Part.{Part}
-use Rattle.svr_base.specs.declared.message.Part.TheVariants as part
-use Rattle.svr_base.specs.declared.message.Reply.{Reply}
-use Rattle.svr_base.specs.declared.message.Reply.TheVariants as reply
-use Rattle.svr_base.specs.declared.peer.PeerMsg.{PeerMsg}
-use Rattle.svr_base.specs.declared.peer.PeerMsg.TheVariants as peer
-use Rattle.svr_base.specs.declared.want.Report.{Report}
-use Rattle.svr_base.specs.declared.want.Report.TheVariants as report
-use Rattle.svr_base.specs.declared.want.Want.{Want}
-use Rattle.svr_base.specs.declared.want.Want.TheVariants as want
+use Rattle.values.specs.declared.batch.Batch.{Batch}
+use Rattle.values.specs.declared.batch.Refusal.{Refusal}
+use Rattle.values.specs.declared.batch.Refusal.TheVariants.{NotLeader, ChangePending, AlreadyVoter, NotVoter, TooFew, TooMany, NotCaughtUp, NoLink, LogFull, NoState, NotForMe, BadPeer, SameMargin}
+use Rattle.values.specs.declared.entry.Body.{Body}
+use Rattle.values.specs.declared.entry.Body.TheVariants as body
+use Rattle.values.specs.declared.entry.Hash.{Hash}
+use Rattle.values.specs.declared.entry.LogEntry.{LogEntry}
+use Rattle.values.specs.declared.entry.Point.{Point}
+use Rattle.values.specs.declared.event.Cause.{Cause}
+use Rattle.values.specs.declared.event.Cause.TheVariants as cause
+use Rattle.values.specs.declared.event.Event.{Event}
+use Rattle.values.specs.declared.event.Event.TheVariants as event
+use Rattle.values.specs.declared.ids.ClientId.{ClientId}
+use Rattle.values.specs.declared.message.Answer.{Answer}
+use Rattle.values.specs.declared.message.Answer.TheVariants as answer
+use Rattle.values.specs.declared.message.Part.{Part}
+use Rattle.values.specs.declared.message.Part.TheVariants as part
+use Rattle.values.specs.declared.message.Reply.{Reply}
+use Rattle.values.specs.declared.message.Reply.TheVariants as reply
+use Rattle.values.specs.declared.peer.PeerMsg.{PeerMsg}
+use Rattle.values.specs.declared.peer.PeerMsg.TheVariants as peer
+use Rattle.values.specs.declared.want.Report.{Report}
+use Rattle.values.specs.declared.want.Report.TheVariants as report
+use Rattle.values.specs.declared.want.Want.{Want}
+use Rattle.values.specs.declared.want.Want.TheVariants as want
 use Rattle.schedule_model.specs.Reading.{RecordFault}
 use Rattle.client_msgs.specs.Canonical.{canonical_response}
+use Rattle.schedule_model.specs.Quantities.{Quantity, Events, Messages, Answers, Replicas, States, Clients}
+use Rattle.schedule_model.specs.Refusals.{GroupRefusal, NoMessage, Lost, NotRunning, AlreadyStarted, NoSuchState, ClientBusy, WrongSize, NumbersOut, NothingInFlight, NoAnswer, NotYours}
 
 -- a line is its fields, joined by commas and ended by a line feed
 abbrev pub Line : Type 0
@@ -95,20 +97,6 @@ part_word part.Nothing = codes "nothing"
 part_word part.Secret = codes "data"
 part_word part.Pin = codes "pin"
 part_word part.Tries = codes "tries"
-
--- the refusals of the group, decided by its own state
-pub data GroupRefusal : Type 0 where
-  NoMessage : (message : ℕ) → GroupRefusal
-  Lost : (message : ℕ) → GroupRefusal
-  NotRunning : (replica : ℕ) → GroupRefusal
-  AlreadyStarted : (replica : ℕ) → GroupRefusal
-  NoSuchState : (state : ℕ) → GroupRefusal
-  ClientBusy : GroupRefusal
-  WrongSize : (part : Part) (length : ℕ) → GroupRefusal
-  NumbersOut : (last : ℕ) → GroupRefusal
-  NothingInFlight : GroupRefusal
-  NoAnswer : (answer : ℕ) → GroupRefusal
-  NotYours : (answer : ℕ) → GroupRefusal
 
 abbrev pub group_refusal_fields : GroupRefusal → Line
 group_refusal_fields (NoMessage k) = codes "nomessage" ∷ decimal k ∷ []
@@ -243,15 +231,6 @@ cause_word cause.Hex = codes "hex"
 cause_word cause.TooMany = codes "toomany"
 cause_word cause.Double = codes "double"
 cause_word cause.TooFew = codes "toofew"
-
--- the quantities of a run that have a limit
-pub data Quantity : Type 0 where
-  Events : Quantity
-  Messages : Quantity
-  Answers : Quantity
-  Replicas : Quantity
-  States : Quantity
-  Clients : Quantity
 
 abbrev pub quantity_word : Quantity → List ℕ
 quantity_word Events = codes "events"

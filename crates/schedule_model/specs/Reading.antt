@@ -4,11 +4,13 @@ use Rattle.std.specs.Char.{is_ascii_digit}
 use Rattle.std.specs.List.{list_all}
 use Rattle.hex.specs.Hex.{decode_of}
 use Rattle.hex.specs.declared.error.FromHexError.{FromHexError}
-use Rattle.svr_base.specs.declared.entry.Hash.{Hash}
-use Rattle.svr_base.specs.declared.ids.ClientId.{ClientId}
-use Rattle.svr_base.specs.declared.event.Cause.{Cause}
-use Rattle.svr_base.specs.declared.event.Cause.TheVariants.{Number, Range, Hex}
-use Rattle.schedule_model.specs.Cutting.{Fields}
+use Rattle.group_quorum.specs.declared.TheConstants.{MAX_ID}
+use Rattle.values.specs.declared.entry.Hash.{Hash}
+use Rattle.values.specs.declared.limits.TheConstants.{MAX_REQUEST}
+use Rattle.values.specs.declared.ids.ClientId.{ClientId}
+use Rattle.values.specs.declared.event.Cause.{Cause}
+use Rattle.values.specs.declared.event.Cause.TheVariants.{Number, Range, Hex}
+use Rattle.record_cutting.specs.Lines.{Record}
 
 -- why a record is no event, and at which of its fields, from 1; 0 stands for the record as a whole
 pub record RecordFault : Type 0 where
@@ -25,7 +27,7 @@ Ok x >>= f = f x
 Err e >>= f = Err e
 
 -- field k of a record
-abbrev pub field : Fields → ℕ → List ℕ
+abbrev pub field : Record → ℕ → List ℕ
 field fields k = slice_index_or fields (k - 1) []
 
 -- a number is 0, or digits without a leading zero
@@ -45,12 +47,12 @@ number_of text k low high =
     else fault Range k
 
 -- field k as a number from `low` to `high`
-abbrev pub number_at : Fields → ℕ → ℕ → ℕ → Result ℕ RecordFault
+abbrev pub number_at : Record → ℕ → ℕ → ℕ → Result ℕ RecordFault
 number_at fields k low high = number_of (field fields k) k low high
 
 -- field k as the id of a replica
-abbrev pub replica_at : Fields → ℕ → Result ℕ RecordFault
-replica_at fields k = number_at fields k 1 65535
+abbrev pub replica_at : Record → ℕ → Result ℕ RecordFault
+replica_at fields k = number_at fields k 1 MAX_ID
 
 -- the greatest u32 and u64
 abbrev pub max_u32 : ℕ
@@ -64,39 +66,35 @@ abbrev pub bytes_or_fault : ℕ → Result (List ℕ) FromHexError → Result (L
 bytes_or_fault k (Ok bytes) = Ok bytes
 bytes_or_fault k (Err e) = fault Hex k
 
-abbrev pub hex_at : Fields → ℕ → Result (List ℕ) RecordFault
+abbrev pub hex_at : Record → ℕ → Result (List ℕ) RecordFault
 hex_at fields k = bytes_or_fault k (decode_of (field fields k))
 
-abbrev pub hex_of_length : Fields → ℕ → ℕ → Result (List ℕ) RecordFault
+abbrev pub hex_of_length : Record → ℕ → ℕ → Result (List ℕ) RecordFault
 hex_of_length fields k n = do
   bytes ← hex_at fields k
   if length bytes == n then Ok bytes else fault Hex k
 
 -- field k as a client, and as a PIN
-abbrev pub client_at : Fields → ℕ → Result ClientId RecordFault
+abbrev pub client_at : Record → ℕ → Result ClientId RecordFault
 client_at fields k = do
   bytes ← hex_of_length fields k 16
   Ok (record { 0 = bytes })
 
-abbrev pub pin_at : Fields → ℕ → Result Hash RecordFault
+abbrev pub pin_at : Record → ℕ → Result Hash RecordFault
 pin_at fields k = do
   bytes ← hex_of_length fields k 32
   Ok (record { 0 = bytes })
 
--- the most request bytes of one record
-abbrev pub max_request : ℕ
-max_request = 65536
-
 -- field k as request bytes
-abbrev pub request_at : Fields → ℕ → Result (List ℕ) RecordFault
+abbrev pub request_at : Record → ℕ → Result (List ℕ) RecordFault
 request_at fields k = do
   bytes ← hex_at fields k
-  if nat_le (length bytes) max_request then Ok bytes else fault Range k
+  if nat_le (length bytes) MAX_REQUEST then Ok bytes else fault Range k
 
 -- the texts from field k on as ids of replicas
-abbrev pub replicas_from : ℕ → Fields → Result (List ℕ) RecordFault
+abbrev pub replicas_from : ℕ → Record → Result (List ℕ) RecordFault
 replicas_from k [] = Ok []
 replicas_from k (text ∷ texts) = do
-  id ← number_of text k 1 65535
+  id ← number_of text k 1 MAX_ID
   ids ← replicas_from (k + 1) texts
   Ok (id ∷ ids)

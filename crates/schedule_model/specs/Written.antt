@@ -1,20 +1,21 @@
 -- What the pieces of a schedule write one after another, and why a text ends before its schedule.
 use Rattle.std.specs.Prelude.{ℕ, List, [], ◌∷◌, ◌++◌, Option, Some, None}
 use Rattle.schedule_model.specs.Reading.{RecordFault}
-use Rattle.schedule_model.specs.Lines.{Quantity, line_text, stopped_at_record, stopped_at_limit, stopped_at_frame}
+use Rattle.schedule_model.specs.Lines.{line_text, stopped_at_record, stopped_at_limit, stopped_at_frame}
+use Rattle.schedule_model.specs.Quantities.{Quantity}
 
 -- a text ends at a record, at a limit, at an answer of the field that is no batch, or where the field does not answer
 pub data Stop : Type 0 where
   AtRecord : (number : ℕ) (fault : RecordFault) → Stop
   AtLimit : (passed : Quantity) → Stop
-  AtFrame : Stop
+  AtFrame : (at : ℕ) → Stop
   AtField : Stop
 
 -- the last line of such a text. Where the field does not answer there is none
 abbrev pub stopped_text : Stop → List ℕ
 stopped_text (AtRecord number fault) = line_text (stopped_at_record number fault)
 stopped_text (AtLimit passed) = line_text (stopped_at_limit passed)
-stopped_text AtFrame = line_text stopped_at_frame
+stopped_text (AtFrame at) = line_text stopped_at_frame
 stopped_text AtField = []
 
 -- what a piece writes, and where playing then stands: the text goes on from there, or it ends there

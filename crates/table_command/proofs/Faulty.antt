@@ -4,10 +4,10 @@ use Rattle.client_msgs.specs.Reading.{ReadsRequest}
 use Rattle.client_msgs.specs.declared.fault.RequestFault.{RequestFault}
 use Rattle.client_msgs.specs.declared.fault.RequestFault.TheVariants as fault
 use Rattle.record_table.specs.Table.{RecordTable}
-use Rattle.svr_base.specs.declared.message.Request.{Request}
+use Rattle.values.specs.declared.message.Request.{Request}
 use Rattle.schedule_model.specs.Lines.{line_text}
 use Rattle.schedule_text.specs.Joined.{after_commas}
-use Rattle.trace_model.specs.TableText.{TableRecord, fault_fields}
+use Rattle.table_model.specs.TableText.{TableRecord, fault_fields}
 use Rattle.table_command.specs.Course.{outcome_of}
 
 no_ok : {T E : Type 0} (result : Result T E) (P : Type 0) → IsErr result → OnOk result P

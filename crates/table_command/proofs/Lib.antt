@@ -1,4 +1,3 @@
 pub mod Asked
 pub mod Playing
-pub mod SameRecords
 pub mod Faulty

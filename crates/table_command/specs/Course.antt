@@ -3,14 +3,14 @@ use Rattle.std.specs.Prelude.{ℕ, ◌+◌, List, Bool, true, false, Option, Som
 use Rattle.record_stream.specs.Course.{Course}
 use Rattle.record_table.specs.Table.{RecordTable}
 use Rattle.record_table.specs.Rules.{apply}
-use Rattle.svr_base.specs.declared.message.Request.{Request}
+use Rattle.values.specs.declared.message.Request.{Request}
 use Rattle.client_msgs.specs.Reading.{request_of}
 use Rattle.client_msgs.specs.declared.fault.RequestFault.{RequestFault}
 use Rattle.schedule_model.specs.Lines.{Line, reply_fields}
 use Rattle.schedule_model.specs.Written.{AtLimit, Stop, Written, On, Off, all_written, no_closing, text_with}
 use Rattle.schedule_text.specs.declared.fault.Stopped.{Stopped}
 use Rattle.schedule_text.specs.declared.fault.Stopped.TheVariants as stopped
-use Rattle.trace_model.specs.TableText.{Applied, TableRecord, fault_fields, rows_line, table_played}
+use Rattle.table_model.specs.TableText.{Applied, TableRecord, fault_fields, rows_line, table_played}
 
 -- what a client's request makes of the table: the table after it, and the fields that are said of it
 abbrev pub outcome_of : RecordTable → TableRecord → Result Request RequestFault → RecordTable × Line
@@ -38,9 +38,10 @@ abbrev pub cause_in : Written Applied → Option Stopped
 cause_in (On text s) = None
 cause_in (Off text stop s) = Some (cause_of stop)
 
--- what a player writes from here on
+-- what a player writes from here on; it asks for nothing itself
 abbrev pub course_from : Applied → Course Stopped
 course_from s = record {
   text = λ closed rs. text_with (closing closed) (all_written table_played s rs);
   reason = λ rs. cause_in (all_written table_played s rs);
+  takes_all = λ rs. true;
 }

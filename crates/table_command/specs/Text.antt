@@ -1,10 +1,10 @@
 -- The text of a source's bytes.
 use Rattle.std.specs.Prelude.{ℕ, List, Option}
 use Rattle.record_table.specs.Table.{empty_table}
-use Rattle.schedule_model.specs.Cutting.{records_of, whole_records}
+use Rattle.record_cutting.specs.Lines.{records_of, whole_records}
 use Rattle.schedule_model.specs.Written.{all_written, no_closing, text_with}
 use Rattle.schedule_text.specs.declared.fault.Stopped.{Stopped}
-use Rattle.trace_model.specs.TableText.{Applied, table_played}
+use Rattle.table_model.specs.TableText.{Applied, table_played}
 use Rattle.table_command.specs.Course.{cause_in}
 
 -- before the first record

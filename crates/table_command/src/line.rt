@@ -3,8 +3,8 @@ ghost use Rattle.std.specs.Prelude.{◌≡◌, ◌++◌, OnOk, IsErr};
 ghost use Rattle.replica_model.specs.Clients as clients;
 ghost use Rattle.schedule_model.specs.Lines.{answer_fields};
 ghost use Rattle.schedule_text.specs.Joined.{after_commas};
-ghost use Rattle.svr_base.specs.declared.message.Answer.TheVariants as answer;
-ghost use Rattle.trace_model.specs.TableText.{fault_fields};
+ghost use Rattle.values.specs.declared.message.Answer.TheVariants as answer;
+ghost use Rattle.table_model.specs.TableText.{fault_fields};
 
 use client_msgs::RequestFault;
 use proto_wire::WireFault;

@@ -1,32 +1,28 @@
 //! The player of a table's records.
-ghost use Rattle.std.specs.Prelude.{◌≡◌, ◌≤◌, ◌<◌, ◌+◌, ◌++◌, ◌^◌, IfOk, OnOk};
-ghost use Rattle.svr_base.specs.Causes.{HasCauseAt};
-ghost use Rattle.record_stream.specs.Course.{Writes};
-ghost use Rattle.record_stream.specs.Lines.{record_of};
-ghost use Rattle.record_table.specs.declared.store.TheConstants.{MOST_ROWS};
+ghost use Rattle.std.specs.Prelude.{◌≡◌, ◌≤◌, ◌<◌, ◌+◌, ◌++◌, ◌^◌, ◌∷◌, decimal, ⊤, IfOk, OnErr, OnOk};
+ghost use Rattle.record_stream.specs.Alone.{none_asked, none_asked_history, nothing_alone, one_course, spent_alone, unstopped_alone};
+ghost use Rattle.record_cutting.specs.Lines.{record_of};
+ghost use Rattle.values.specs.declared.limits.TheConstants.{MOST_ROWS};
 ghost use Rattle.record_table.specs.Table.{empty_table};
-ghost use Rattle.schedule_model.specs.Lines.{line_text, stopped_at_limit, stopped_at_record, Events};
+ghost use Rattle.schedule_model.specs.Lines.{line_text, stopped_at_limit, stopped_at_record};
+ghost use Rattle.schedule_model.specs.Quantities.{Events};
 ghost use Rattle.schedule_text.specs.Joined.{after_commas};
 ghost use Rattle.schedule_text.specs.Read.{Reads};
-ghost use Rattle.trace_model.specs.TableText.{row_line, rows_line, table_record};
+ghost use Rattle.table_model.specs.TableText.{row_line, rows_line, table_record};
 ghost use Rattle.table_command.specs.Course.{after_ask, course_from, outcome};
-ghost use Rattle.table_command.specs.Openings.{nothing_from, unstopped_from};
+ghost use Rattle.table_command.specs.Openings.{nothing_from, spent_from, unstopped_from};
 
 use crate::line::push_fault;
 use crate::record::{TableRecord, read_record};
 use client_msgs::read_request;
-use record_stream::{Player, Stop, Unwritten};
+use record_stream::{Player, Stop};
 use record_table::Table;
 use schedule_text::{
     RecordFault, Stopped, Unread, limit_line, push_number, push_reply, record_line,
 };
 use std::alloc::Global;
 use std::marker::Model;
-use std::mem::replace;
-use svr_base::{Memory, Sink, write_all};
-
-/// The most records that are applied.
-const MOST_RECORDS: u64 = 1_000_000;
+use svr_base::{MAX_EVENTS, Memory};
 
 /// One record table, and how many records were applied to it. Contracts see both.
 #[derive(Drop)]
@@ -34,14 +30,12 @@ pub struct TablePlayer {
     alloc: Global,
     table: Table,
     records: u64,
-    /// Where the bytes of each request stand in turn.
-    request: Vec<u8>,
     /// Where each line stands in turn.
     line: Vec<u8>,
 }
 
 impl Model for TablePlayer {
-    ghost use Rattle.trace_model.specs.TableText.{Applied};
+    ghost use Rattle.table_model.specs.TableText.{Applied};
 
     ghost Value = { Applied };
 
@@ -67,6 +61,23 @@ fn push_outcome(
     }
 }
 
+/// Applies a request to the table as the one of this number, and appends the line of what comes of it.
+fn push_row(
+    line: &mut Vec<u8>,
+    alloc: Global,
+    table: &mut Table,
+    number: u64,
+    ask: &TableRecord,
+) -> Result<(), Memory>
+    ensures line { OnOk result (line.new.items ≡ line.old.items ++ line_text (decimal number ∷ (outcome table.old ask.now).1)) }
+    ensures table { OnOk result (table.new ≡ (outcome table.old ask.now).0) }
+{
+    push_number(line, number)?;
+    push_outcome(line, alloc, table, ask)?;
+    line.push(b'\n')?;
+    Ok(())
+}
+
 impl TablePlayer {
     /// An empty table of this limit, before the first record.
     pub fn new(alloc: Global, limit: u32) -> TablePlayer
@@ -78,66 +89,47 @@ impl TablePlayer {
             alloc,
             table: Table::new(alloc, limit),
             records: 0,
-            request: Vec::new(alloc),
             line: Vec::new(alloc),
         }
     }
 
-    /// What a record asks. Its bytes stand where those of the record before it stood.
-    fn read(&mut self, fields: &[&[u8]]) -> Result<TableRecord, Unread>
-        ensures reads { Reads result (table_record (record_of fields.now)) }
-        ensures same { self.new ≡ self.old }
-    {
-        let request = replace(&mut self.request, Vec::new(self.alloc));
-        read_record(request, fields)
-    }
-
-    /// Applies a request, and gives its line.
-    fn answer(&mut self, ask: &TableRecord) -> Result<Vec<u8>, Memory>
+    /// Plays a request, and appends its line.
+    fn ask(&mut self, ask: &TableRecord, lines: &mut Vec<u8>) -> Result<(), Memory>
         requires { self.old.records < 2 ^ 62 }
-        ensures line { IfOk result (λ line. line.items ≡ row_line self.old (outcome self.old.table ask.now).1) }
-        ensures after { OnOk result (self.new ≡ record self.old { table = (outcome self.old.table ask.now).0 }) }
+        ensures line { OnOk result (lines.new.items ≡ lines.old.items ++ row_line self.old (outcome self.old.table ask.now).1) }
+        ensures after { OnOk result (self.new ≡ after_ask self.old ask.now) }
+        ensures kept { OnErr result (lines.new.items ≡ lines.old.items) }
     {
-        let mut line = replace(&mut self.line, Vec::new(self.alloc));
-        line.clear();
-        push_number(&mut line, self.records + 1)?;
-        push_outcome(&mut line, self.alloc, &mut self.table, ask)?;
-        line.push(b'\n')?;
-        Ok(line)
-    }
-
-    /// Plays a request, and writes its line. The room of both is kept for the next.
-    fn ask<K: Sink>(&mut self, ask: TableRecord, sink: &mut K) -> Result<(), Unwritten>
-        requires { self.old.records < 2 ^ 62 }
-        ensures writes { Writes (row_line self.old (outcome self.old.table ask).1) (K.taken sink.old) (K.taken sink.new) result }
-        ensures after { OnOk result (self.new ≡ after_ask self.old ask) }
-        ensures cause { HasCauseAt Unwritten.WriteFault (K.faults sink.old) (K.faults sink.new) result }
-    {
-        let line = self.answer(&ask)?;
-        write_all(sink, line.as_slice())?;
-        self.line = line;
-        self.request = ask.request.into_vec();
+        self.line.clear();
+        push_row(
+            &mut self.line,
+            self.alloc,
+            &mut self.table,
+            self.records + 1,
+            ask,
+        )?;
+        lines.extend_from_slice(self.line.as_slice())?;
         self.records += 1;
         Ok(())
     }
 
-    /// Writes that the next record means nothing.
-    fn stop_at_record<K: Sink>(&self, fault: &RecordFault, sink: &mut K) -> Result<(), Unwritten>
+    /// Says that the next record means nothing.
+    fn stop_at_record(&self, fault: &RecordFault, lines: &mut Vec<u8>) -> Result<(), Memory>
         requires { self.now.records < 2 ^ 62 }
-        ensures writes { Writes (line_text (stopped_at_record (self.now.records + 1) fault.now)) (K.taken sink.old) (K.taken sink.new) result }
-        ensures cause { HasCauseAt Unwritten.WriteFault (K.faults sink.old) (K.faults sink.new) result }
+        ensures line { OnOk result (lines.new.items ≡ lines.old.items ++ line_text (stopped_at_record (self.now.records + 1) fault.now)) }
+        ensures kept { OnErr result (lines.new.items ≡ lines.old.items) }
     {
         let line = record_line(self.alloc, self.records + 1, fault)?;
-        write_all(sink, line.as_slice())?;
+        lines.extend_from_slice(line.as_slice())?;
         Ok(())
     }
 
-    /// Writes that no more records are applied.
-    fn stop_at_limit<K: Sink>(&self, sink: &mut K) -> Result<(), Unwritten>
-        ensures writes { Writes (line_text (stopped_at_limit Events)) (K.taken sink.old) (K.taken sink.new) result }
-        ensures cause { HasCauseAt Unwritten.WriteFault (K.faults sink.old) (K.faults sink.new) result }
+    /// Says that no more records are applied.
+    fn stop_at_limit(&self, lines: &mut Vec<u8>) -> Result<(), Memory>
+        ensures line { OnOk result (lines.new.items ≡ lines.old.items ++ line_text (stopped_at_limit Events)) }
+        ensures kept { OnErr result (lines.new.items ≡ lines.old.items) }
     {
-        write_all(sink, limit_line().as_bytes())?;
+        lines.extend_from_slice(limit_line().as_bytes())?;
         Ok(())
     }
 
@@ -151,13 +143,13 @@ impl TablePlayer {
         Ok(line)
     }
 
-    /// Writes how many rows there are.
-    fn end<K: Sink>(&self, sink: &mut K) -> Result<(), Unwritten>
-        ensures writes { Writes (rows_line self.now) (K.taken sink.old) (K.taken sink.new) result }
-        ensures cause { HasCauseAt Unwritten.WriteFault (K.faults sink.old) (K.faults sink.new) result }
+    /// Says how many rows there are.
+    fn end(&self, lines: &mut Vec<u8>) -> Result<(), Memory>
+        ensures line { OnOk result (lines.new.items ≡ lines.old.items ++ rows_line self.now) }
+        ensures kept { OnErr result (lines.new.items ≡ lines.old.items) }
     {
         let line = self.rows_text()?;
-        write_all(sink, line.as_slice())?;
+        lines.extend_from_slice(line.as_slice())?;
         Ok(())
     }
 }
@@ -165,32 +157,44 @@ impl TablePlayer {
 impl Player for TablePlayer {
     type Reason = Stopped;
 
-    ghost course = { λ p. course_from p };
+    ghost Given = { ⊤ };
+
+    ghost takes = { λ p. one_course course_from p };
+
+    ghost gains = { λ p q given. none_asked p q given };
+
+    ghost live = { λ p. ⊤ };
+
+    ghost own_faults = { λ p. 0 };
 
     ghost count = { λ p. p.records };
 
-    fn play<K: Sink>(&mut self, fields: &[&[u8]], sink: &mut K) -> Result<(), Stop<Stopped>> {
-        let ask = match self.read(fields) {
+    fn play(&mut self, fields: &[&[u8]], lines: &mut Vec<u8>) -> Result<(), Stop<Stopped>> {
+        let ask = match read_record(self.alloc, fields) {
             Ok(ask) => ask,
             Err(Unread::Memory) => return Err(Stop::Memory),
             Err(Unread::Fault(fault)) => {
-                self.stop_at_record(&fault, sink)?;
+                self.stop_at_record(&fault, lines)?;
                 return Err(Stop::Stopped(Stopped::AtRecord));
             }
         };
-        if self.records >= MOST_RECORDS {
-            self.stop_at_limit(sink)?;
+        if self.records >= MAX_EVENTS {
+            self.stop_at_limit(lines)?;
             return Err(Stop::Stopped(Stopped::AtLimit));
         }
-        self.ask(ask, sink)?;
+        self.ask(&ask, lines)?;
         Ok(())
     }
 
-    fn close<K: Sink>(&mut self, sink: &mut K) -> Result<(), Unwritten> {
-        self.end(sink)
+    fn close(&mut self, lines: &mut Vec<u8>) -> Result<(), Memory> {
+        self.end(lines)
     }
 
-    ghost nothing = { λ p. nothing_from p };
+    ghost nothing = { λ p. nothing_alone course_from nothing_from p };
 
-    ghost unstopped = { λ p. unstopped_from p };
+    ghost unstopped = { λ p. unstopped_alone course_from unstopped_from p };
+
+    ghost spent = { λ p. spent_alone course_from spent_from p };
+
+    ghost history = { none_asked_history };
 }

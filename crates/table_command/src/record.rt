@@ -1,9 +1,10 @@
 //! What a record asks of the table.
-ghost use Rattle.record_stream.specs.Lines.{record_of};
+ghost use Rattle.record_cutting.specs.Lines.{record_of};
 ghost use Rattle.schedule_text.specs.Read.{Reads};
-ghost use Rattle.trace_model.specs.TableText.{table_record};
+ghost use Rattle.table_model.specs.TableText.{table_record};
 
 use schedule_text::{RecordFault, Unread, client_of, hex_of, number_of};
+use std::alloc::Global;
 use std::marker::Model;
 use svr_base::{Bytes, Cause, ClientId};
 
@@ -16,16 +17,15 @@ pub struct TableRecord {
 }
 
 impl Model for TableRecord {
-    ghost use Rattle.trace_model.specs.TableText.{TableRecord as Asked};
+    ghost use Rattle.table_model.specs.TableText.{TableRecord as Asked};
 
     ghost Value = { Asked };
 
     ghost view = { λ r. record { client = r.client; number = r.number; request = r.request } };
 }
 
-/// What a record asks: it has three fields, a client, a number and the hexadecimal of a request's bytes. The bytes
-/// stand in `request`, whose room is used again.
-pub fn read_record(request: Vec<u8>, fields: &[&[u8]]) -> Result<TableRecord, Unread>
+/// What a record asks: it has three fields, a client, a number and the hexadecimal of a request's bytes.
+pub fn read_record(alloc: Global, fields: &[&[u8]]) -> Result<TableRecord, Unread>
     ensures { Reads result (table_record (record_of fields.now)) }
 {
     let [client, number, hex] = fields else {
@@ -33,7 +33,7 @@ pub fn read_record(request: Vec<u8>, fields: &[&[u8]]) -> Result<TableRecord, Un
     };
     let client = client_of(client, 1)?;
     let number = number_of(number, 2, 0, u64::MAX)?;
-    let request = hex_of(request, hex, 3)?;
+    let request = hex_of(Vec::new(alloc), hex, 3)?;
     Ok(TableRecord {
         client,
         number,

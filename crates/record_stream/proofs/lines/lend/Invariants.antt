@@ -1,6 +1,6 @@
 use Rattle.std.proofs.Common.{◌≡◌, take}
 use Rattle.csv.specs.Records.{fields_of}
-use Rattle.record_stream.specs.Lines.{record_of}
+use Rattle.record_cutting.specs.Lines.{record_of}
 use Rattle.record_stream.proofs.lines.lend.Given as goal
 
 -- the first fields are lent

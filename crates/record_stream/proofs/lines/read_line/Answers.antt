@@ -1,12 +1,11 @@
 use Rattle.std.proofs.Common.{Bor, List, ℕ, arith, ap, ◌∙◌, ◌++◌, sym, refl, inl, inr, Some, ◌∷◌, [], Err, length-append}
-use Rattle.std.proofs.KnownBytes.{Appends-nil, Appends-trans}
 use Rattle.std.proofs.lemmas.Result.{err_from_is_err_and}
 use Rattle.csv.specs.Reading.{Reached, default_config, strip_bom}
 use Rattle.csv.specs.Records.{fields_of}
 use Rattle.csv.specs.declared.parser.State.TheVariants as st
 use Rattle.csv.proofs.ReadFacts.{rows-end, rows-more}
 use Rattle.record_stream.proofs.Faults.{cause_passed}
-use Rattle.record_stream.proofs.Courses.{begins_with, goes_none, goes_then, plays_then, stops_in}
+use Rattle.record_stream.proofs.Courses.{advances_none, advances_then, cuts_with, grows_none, grows_then, plays_then, stops_in}
 use Rattle.record_stream.proofs.ReadRecords.{length-rows, records-all, records-front}
 use Rattle.record_stream.proofs.lines.read_line.Goals as goal
 
@@ -24,18 +23,19 @@ loop-row-init g c =
       ready = inr (inr (rw (f, e) at fr.has_headers, fr.headers));
       turns = left;
       config = rw (f, e) at fr.config ∙ c.new.ensures.config;
-      so_far = (strip_bom c.args.line.now, [], fr.source, (sym fr.state, refl), omega arith, [], goes_none _, Appends-nil _);
-      later = omega arith;
+      so_far = (strip_bom c.args.line.now, [], fr.source, (sym fr.state, refl), omega arith, [], advances_none _ _ g.met.P.Player.history _, grows_none _);
+      live = c.requires.live;
+      own_later = omega arith;
     })
 
-pub play_row-requires : goal.play_row-requires
-play_row-requires g c =
+pub play_row-requires-clause-count : goal.play_row-requires-clause-count
+play_row-requires-clause-count g c =
     let inv = c.loop-row.invariant in
     let (left, rows, source, reached, count, written, goes, taken) = inv.so_far in
     let s = rw (c.in-Some.is, c.in-Ok.is) at ((c.next.ensures.steps inv.turns inv.trim).0 inv.ready) in
     let m = rows-more (λ (s : Bor (List ℕ)). Some s.now) c.loop-row.row-iterator.rdr c.next.new.self.rdr (fields_of c.in-Ok.row) default_config st.StartRecord (strip_bom c.args.line.now) left rows inv.config source reached s.0 in
     let few = length-rows c.args.line.now _ m.0 (rows ++ (fields_of c.in-Ok.row ∷ [])) m.2 in
-    omega (arith, count, few, length-append rows (fields_of c.in-Ok.row ∷ []), c.requires)
+    omega (arith, count, few, length-append rows (fields_of c.in-Ok.row ∷ []), c.requires.count)
 
 pub returns-in_err-play_row : goal.returns-in_err-play_row
 returns-in_err-play_row g c =
@@ -45,11 +45,12 @@ returns-in_err-play_row g c =
     let s = rw (c.in-Some.is, c.in-Ok.is) at ((c.next.ensures.steps inv.turns inv.trim).0 inv.ready) in
     let m = rows-more (λ (s : Bor (List ℕ)). Some s.now) c.loop-row.row-iterator.rdr c.next.new.self.rdr (fields_of c.in-Ok.row) default_config st.StartRecord (strip_bom c.args.line.now) left rows inv.config source reached s.0 in
     let (rest, front) = records-front c.args.line.now _ m.0 (rows ++ (fields_of c.in-Ok.row ∷ [])) m.2 in
-    let all = plays_then _ _ _ rows (fields_of c.in-Ok.row ∷ []) written _ _ _ _ goes taken c.play_row.ensures.plays in
+    let all = plays_then _ _ g.met.P.Player.history _ _ _ rows (fields_of c.in-Ok.row ∷ []) written _ _ _ _ goes taken c.play_row.ensures.plays in
     record {
-      plays = rw front (stops_in _ _ _ (rows ++ (fields_of c.in-Ok.row ∷ [])) rest _ _ _ _ _ c.in_err-play_row.was (p.1 ∙ ap Err p.2) all);
+      plays = rw front (stops_in _ _ _ _ (rows ++ (fields_of c.in-Ok.row ∷ [])) rest _ _ _ _ _ c.in_err-play_row.was (p.1 ∙ ap Err p.2) all);
       counted = rw p.1 tt;
-      cause = cause_passed _ _ _ _ _ _ _ inv.later c.in_err-play_row.was (p.1 ∙ ap Err p.2) c.play_row.ensures.cause;
+      own_cause = cause_passed _ _ _ _ _ _ _ inv.own_later c.in_err-play_row.was (p.1 ∙ ap Err p.2) c.play_row.ensures.own_cause;
+      live = rw p.1 tt;
     }
 
 pub loop-row-preserved : goal.loop-row-preserved
@@ -71,10 +72,11 @@ loop-row-preserved g c =
         m.2,
         omega (arith, count, c.in_ok-play_row.ensures.counted, length-append rows (fields_of c.in-Ok.row ∷ [])),
         written ++ more,
-        goes_then _ _ _ rows (fields_of c.in-Ok.row ∷ []) written more goes goes_more,
-        Appends-trans _ _ _ written more taken taken_more,
+        advances_then _ _ g.met.P.Player.history _ _ _ rows (fields_of c.in-Ok.row ∷ []) written more goes goes_more,
+        grows_then _ _ _ written more taken taken_more,
       );
-      later = omega (arith, inv.later, c.play_row.ensures.cause.later);
+      live = c.in_ok-play_row.ensures.live;
+      own_later = omega (arith, inv.own_later, c.play_row.ensures.own_cause.later);
     }
 
 pub returns-in_default : goal.returns-in_default
@@ -82,9 +84,10 @@ returns-in_default g c =
     let (left, rows, source, reached, count, written, goes, taken) = c.loop-row.invariant.so_far in
     let (rest, front) = records-front c.args.line.now _ left rows reached in
     record {
-      plays = (written, rw front (begins_with _ _ rows rest written goes), taken);
+      plays = (written, rw front (cuts_with _ _ _ _ rows rest written goes), taken);
       counted = tt;
-      cause = record { later = c.loop-row.invariant.later; failed = λ e. cc e };
+      own_cause = record { later = c.loop-row.invariant.own_later; failed = λ e. cc e };
+      live = tt;
     }
 
 pub returns : goal.returns
@@ -98,5 +101,6 @@ returns g c =
     record {
       plays = (written, rw all goes, taken);
       counted = omega (arith, count, few);
-      cause = record { later = inv.later; failed = λ e. cc e };
+      own_cause = record { later = inv.own_later; failed = λ e. cc e };
+      live = inv.live;
     }

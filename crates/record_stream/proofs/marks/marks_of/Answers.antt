@@ -1,4 +1,4 @@
-use Rattle.std.proofs.Common.{arith, ap, sym, ◌∙◌, ltb, replicate, w8}
+use Rattle.std.proofs.Common.{arith, ap, ◌∙◌, ltb, replicate, w8}
 use Rattle.std.proofs.lemmas.Simd.{bitmask_splat, length-zip2}
 use Rattle.std.specs.Int.{bit_at}
 use Rattle.std.specs.Simd.Lanes.{zip2}

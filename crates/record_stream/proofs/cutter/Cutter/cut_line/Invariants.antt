@@ -1,6 +1,6 @@
 use Rattle.std.proofs.Common.{◌≡◌, ◌-◌, ◌≤◌, length, slice_range}
 use Rattle.memchr.specs.Find.{Nowhere, Passes}
-use Rattle.record_stream.specs.Lines.{record_of}
+use Rattle.record_cutting.specs.Lines.{record_of}
 use Rattle.record_stream.specs.Plain.{is_marked}
 use Rattle.record_stream.proofs.Walks.{CutTo, is_other}
 use Rattle.record_stream.proofs.cutter.Cutter.cut_line.Given as goal

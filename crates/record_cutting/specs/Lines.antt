@@ -22,7 +22,16 @@ unfoldable pub last_part : List ℕ → List ℕ → List ℕ
 last_part begun [] = begun
 last_part begun (b ∷ bs) = if b == 10 then last_part [] bs else last_part (begun ++ (b ∷ [])) bs
 
--- the records that a fresh reader reads of a line
+-- what follows the last line feed is a line where it is not empty
+abbrev pub line_if_any : List ℕ → List (List ℕ)
+line_if_any [] = []
+line_if_any (b ∷ bs) = (b ∷ bs) ∷ []
+
+-- the lines of bytes
+abbrev pub lines_of : List ℕ → List (List ℕ)
+lines_of bytes = whole_lines [] bytes ++ line_if_any (last_part [] bytes)
+
+-- the records that a fresh reader reads of a line, with a comma, no header and flexible lengths
 unfoldable pub line_records : List ℕ → List Record
 line_records line = records default_config (strip_bom line)
 

@@ -1,0 +1,2 @@
+//! How bytes are cut into lines, and lines into records. Definitions alone.
+#![tactic(auto)]

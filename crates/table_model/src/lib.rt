@@ -1,0 +1,2 @@
+//! The text of a schedule of requests to one record table. Definitions alone.
+#![tactic(auto)]
