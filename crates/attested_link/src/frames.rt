@@ -4,7 +4,7 @@ ghost use Rattle.attested_link.specs.Frames.{frame_bytes, link_frame};
 
 use fixed_fields::{Writer, u32_at};
 use std::alloc::Global;
-use svr_base::{Bytes, Memory, ReplicaId};
+use values::{Bytes, Memory, ReplicaId};
 
 /// Why a link frame is not taken: the first of these that holds, in this order.
 #[derive(Clone, Copy, Debug, PartialEq, Eq)]

@@ -4,7 +4,7 @@ ghost use Rattle.attested_link.specs.Frames.{Gives, accepted_of, frame_bytes};
 use crate::frames::{LinkFault, parts};
 use std::alloc::Global;
 use std::collections::BTreeSet;
-use svr_base::{Memory, ReplicaId};
+use values::{Memory, ReplicaId};
 
 /// The replicas that are linked.
 #[derive(Drop)]

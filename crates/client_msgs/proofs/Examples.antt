@@ -3,10 +3,10 @@ use Rattle.std.specs.Prelude.{◌≡◌, ℕ, List, [], ◌∷◌, ◌++◌, Ok,
 use Rattle.proto_wire.specs.declared.field.WireFault.TheVariants.{Cut, FieldZero}
 use Rattle.proto_wire.specs.Varint.{groups, number_in}
 use Rattle.proto_wire.specs.Fields.{payload_field, field_at, sequence_behind}
-use Rattle.svr_base.specs.declared.message.Part.TheVariants.{Secret, Pin, Tries}
-use Rattle.svr_base.specs.declared.message.Request.{Request}
-use Rattle.svr_base.specs.declared.message.Request.TheVariants.{Backup}
-use Rattle.svr_base.specs.declared.message.Response.TheVariants as responses
+use Rattle.values.specs.declared.message.Part.TheVariants.{Secret, Pin, Tries}
+use Rattle.values.specs.declared.message.Request.{Request}
+use Rattle.values.specs.declared.message.Request.TheVariants.{Backup}
+use Rattle.values.specs.declared.message.Response.TheVariants as responses
 use Rattle.client_msgs.specs.declared.fault.RequestFault.TheVariants.{Wire, Nothing, Size}
 use Rattle.client_msgs.specs.Canonical.{canonical_request, canonical_response}
 use Rattle.client_msgs.specs.Reading.{request_of, response_of}

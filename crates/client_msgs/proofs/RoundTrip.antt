@@ -12,13 +12,13 @@ use Rattle.proto_wire.specs.Written.{IsNumber, tag, varint_field, block_field, m
 use Rattle.proto_wire.specs.Reading.{is_member, last_member, member_fault, first_fault}
 use Rattle.proto_wire.proofs.FieldTrip.{Spells, Spells-nil, Spells-append, Spells-varint, Spells-block, Spells-message, Spells-whole, varint_field-few, block_field-few}
 use Rattle.proto_wire.proofs.OneofLemmas.{last_member-push}
-use Rattle.svr_base.specs.declared.message.Part.{Part}
-use Rattle.svr_base.specs.declared.message.Request.{Request}
-use Rattle.svr_base.specs.declared.message.Request.TheVariants as requests
-use Rattle.svr_base.specs.declared.message.Response.{Response}
-use Rattle.svr_base.specs.declared.message.Response.TheVariants as responses
+use Rattle.values.specs.declared.message.Part.{Part}
+use Rattle.values.specs.declared.message.Request.{Request}
+use Rattle.values.specs.declared.message.Request.TheVariants as requests
+use Rattle.values.specs.declared.message.Response.{Response}
+use Rattle.values.specs.declared.message.Response.TheVariants as responses
 use Rattle.client_msgs.specs.Canonical.{canonical_request, canonical_response}
-use Rattle.svr_base.specs.Sizes.{IsValid}
+use Rattle.values.specs.Sizes.{IsValid}
 use Rattle.client_msgs.specs.Sizes.{size_fault, FitsRequest, FitsResponse}
 use Rattle.client_msgs.proofs.SizesLemmas.{size_fault-none}
 use Rattle.client_msgs.specs.Reading.{request_from, if_sized, sized, request_in, request_of, response_from, response_in, response_of}

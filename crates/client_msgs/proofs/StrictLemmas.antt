@@ -11,10 +11,10 @@ use Rattle.proto_wire.specs.Fields.{Field, sequence_at}
 use Rattle.proto_wire.specs.Reading.{first_fault, last_member}
 use Rattle.proto_wire.specs.Written.{tag, varint_field, block_field, message_field}
 use Rattle.proto_wire.proofs.VarintLemmas.{varint_one, varint_step}
-use Rattle.svr_base.specs.Sizes.{IsSecret, AreTries, IsValid}
-use Rattle.svr_base.specs.declared.message.Part.{Part}
-use Rattle.svr_base.specs.declared.message.Request.{Request}
-use Rattle.svr_base.specs.declared.message.Request.TheVariants as requests
+use Rattle.values.specs.Sizes.{IsSecret, AreTries, IsValid}
+use Rattle.values.specs.declared.message.Part.{Part}
+use Rattle.values.specs.declared.message.Request.{Request}
+use Rattle.values.specs.declared.message.Request.TheVariants as requests
 use Rattle.client_msgs.specs.declared.fault.RequestFault.{RequestFault}
 use Rattle.client_msgs.specs.Canonical.{canonical_request, request_number, request_fields}
 use Rattle.client_msgs.specs.Reading.{request_from, if_sized, request_in, request_of}

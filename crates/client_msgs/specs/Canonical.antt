@@ -1,10 +1,10 @@
 -- The one list of bytes that a value is written as.
 use Rattle.std.specs.Prelude.{ℕ, List, [], ◌++◌}
 use Rattle.proto_wire.specs.Written.{varint_field, block_field, message_field}
-use Rattle.svr_base.specs.declared.message.Request.{Request}
-use Rattle.svr_base.specs.declared.message.Request.TheVariants as requests
-use Rattle.svr_base.specs.declared.message.Response.{Response}
-use Rattle.svr_base.specs.declared.message.Response.TheVariants as responses
+use Rattle.values.specs.declared.message.Request.{Request}
+use Rattle.values.specs.declared.message.Request.TheVariants as requests
+use Rattle.values.specs.declared.message.Response.{Response}
+use Rattle.values.specs.declared.message.Response.TheVariants as responses
 
 -- the number of the member, and its fields
 abbrev pub request_number : Request → ℕ

@@ -1,8 +1,8 @@
 -- Bytes that are the canonical bytes of a valid request, and no other spelling of it.
 use Rattle.std.specs.Prelude.{◌≡◌, ℕ, nat_eq, Bool, false, List, Result, Ok, Err}
 use Rattle.std.specs.Cmp.Lexicographic.{pointwise}
-use Rattle.svr_base.specs.Sizes.{IsValid}
-use Rattle.svr_base.specs.declared.message.Request.{Request}
+use Rattle.values.specs.Sizes.{IsValid}
+use Rattle.values.specs.declared.message.Request.{Request}
 use Rattle.client_msgs.specs.declared.fault.RequestFault.{RequestFault}
 use Rattle.client_msgs.specs.Canonical.{canonical_request}
 use Rattle.client_msgs.specs.Reading.{request_of}

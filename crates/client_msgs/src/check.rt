@@ -2,10 +2,10 @@
 
 ghost use Rattle.std.specs.Prelude.{◌≡◌, ◌↔◌, length, IsOk};
 ghost use Rattle.std.specs.Result.{result_err};
-ghost use Rattle.svr_base.specs.Sizes.{IsValid};
+ghost use Rattle.values.specs.Sizes.{IsValid};
 ghost use Rattle.client_msgs.specs.Sizes.{size_fault, tries_fault, outside};
 
-use svr_base::{Part, Request};
+use values::{Part, Request};
 
 /// The first size of a request that is out of range, in the order secret, pin, tries: the part and its
 /// length, or for the tries their number. A secret has 16 to 48 bytes, a pin 32, and there are from 1 to

@@ -5,7 +5,7 @@ ghost use Rattle.client_msgs.specs.declared.fault.RequestFault.TheVariants as re
 ghost use Rattle.client_msgs.specs.declared.fault.ResponseFault.TheVariants as response_faults;
 
 use proto_wire::WireFault;
-use svr_base::{Memory, Part};
+use values::{Memory, Part};
 
 /// Why bytes are no request.
 #[derive(Clone, Copy, Debug, PartialEq, Eq)]

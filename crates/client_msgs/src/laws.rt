@@ -1,11 +1,11 @@
 //! What is written is read again.
 
 ghost use Rattle.std.specs.Prelude.{◌≡◌, Ok};
-ghost use Rattle.svr_base.specs.declared.message.Request.{Request};
-ghost use Rattle.svr_base.specs.declared.message.Response.{Response};
+ghost use Rattle.values.specs.declared.message.Request.{Request};
+ghost use Rattle.values.specs.declared.message.Response.{Response};
 ghost use Rattle.client_msgs.specs.Canonical.{canonical_request, canonical_response};
 ghost use Rattle.client_msgs.specs.Reading.{request_of, response_of};
-ghost use Rattle.svr_base.specs.Sizes.{IsValid};
+ghost use Rattle.values.specs.Sizes.{IsValid};
 ghost use Rattle.client_msgs.specs.Sizes.{FitsRequest, FitsResponse};
 
 /// The canonical bytes of a valid request stand for that request.

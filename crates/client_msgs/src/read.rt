@@ -4,13 +4,13 @@ ghost use Rattle.std.specs.Prelude.{◌≡◌, ℕ, ◌%◌, ◌^◌, List, leng
 ghost use Rattle.proto_wire.specs.Fields.{Field};
 ghost use Rattle.client_msgs.specs.Reading.{request_of, request_from, sized, ReadsRequest, response_of, response_from, ReadsResponse};
 ghost use Rattle.client_msgs.specs.Gathered.{Holds};
-ghost use Rattle.svr_base.specs.Sizes.{IsValid};
+ghost use Rattle.values.specs.Sizes.{IsValid};
 
 use crate::check::{check_pin, check_secret, check_tries};
 use crate::fault::{RequestFault, ResponseFault};
 use crate::oneof::{Member, last_member};
 use std::alloc::Global;
-use svr_base::{Bytes, Hash, Request, Response};
+use values::{Bytes, Hash, Request, Response};
 
 /// The request that bytes stand for.
 ///

@@ -2,7 +2,7 @@
 
 ghost use Rattle.std.specs.Prelude.{◌≡◌, ◌≢◌, ℕ, ◌≤◌, ◌<◌, ◌++◌, ◌∷◌, [], true, List, length, IfSome, IsSomeAnd, Some};
 ghost use Rattle.proto_wire.specs.Written.{block_field, varint_field};
-ghost use Rattle.svr_base.specs.Sizes.{IsSecret, AreTries};
+ghost use Rattle.values.specs.Sizes.{IsSecret, AreTries};
 ghost use Rattle.client_msgs.specs.Strict.{is_canonical};
 
 /// Whether the bytes are the canonical bytes of a valid request: what `write_request` writes for it, and no

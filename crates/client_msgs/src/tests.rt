@@ -2,7 +2,7 @@ use super::*;
 use proto_wire::WireFault;
 use std::alloc::{AllocError, Global};
 use std::test::Fail;
-use svr_base::{Bytes, Hash, Part, Request, Response};
+use values::{Bytes, Hash, Part, Request, Response};
 
 const SECRET: [u8; 16] = [0xaa; 16];
 

@@ -3,11 +3,11 @@
 ghost use Rattle.std.specs.Prelude.{◌≡◌, ◌++◌, ◌≤◌, IfOk, OnOk};
 ghost use Rattle.proto_wire.specs.Written.{message_field};
 ghost use Rattle.client_msgs.specs.Canonical.{canonical_request, request_number, request_fields, canonical_response, response_number, response_fields};
-ghost use Rattle.svr_base.specs.Sizes.{IsValid};
+ghost use Rattle.values.specs.Sizes.{IsValid};
 
 use proto_wire::FieldWriter;
 use std::alloc::Global;
-use svr_base::{Bytes, Memory, Request, Response};
+use values::{Bytes, Memory, Request, Response};
 
 /// Room for the member of a request, and for a message of it, so that one allocation serves each.
 const ROOM: usize = 96;

@@ -16,18 +16,18 @@ use Rattle.proto_wire.proofs.RoundTrip.{groups-few}
 use Rattle.proto_wire.proofs.ReadingLemmas.{u64_of-push}
 use Rattle.proto_wire.proofs.OneofLemmas.{last_member-push}
 use Rattle.proto_wire.proofs.FieldTrip.{Spells-append, Spells-varint, Spells-message, Spells-whole, varint_field-few, block_field-few}
-use Rattle.svr_base.specs.declared.entry.Point.{Point}
-use Rattle.svr_base.specs.declared.entry.Body.{Body}
-use Rattle.svr_base.specs.declared.entry.Body.TheVariants.{Noop, Ask, Members}
-use Rattle.svr_base.specs.declared.entry.LogEntry.{LogEntry}
-use Rattle.svr_base.specs.declared.row.Row.{Row}
-use Rattle.svr_base.specs.declared.row.Kept.{Kept}
-use Rattle.svr_base.specs.declared.peer.TablePart.{TablePart}
-use Rattle.svr_base.specs.declared.peer.PeerMsg.{PeerMsg}
-use Rattle.svr_base.specs.declared.peer.PeerMsg.TheVariants.{AskVote, Vote, Append, Accepted, Rejected, Part, PartTaken}
+use Rattle.values.specs.declared.entry.Point.{Point}
+use Rattle.values.specs.declared.entry.Body.{Body}
+use Rattle.values.specs.declared.entry.Body.TheVariants.{Noop, Ask, Members}
+use Rattle.values.specs.declared.entry.LogEntry.{LogEntry}
+use Rattle.values.specs.declared.row.Row.{Row}
+use Rattle.values.specs.declared.row.Kept.{Kept}
+use Rattle.values.specs.declared.peer.TablePart.{TablePart}
+use Rattle.values.specs.declared.peer.PeerMsg.{PeerMsg}
+use Rattle.values.specs.declared.peer.PeerMsg.TheVariants.{AskVote, Vote, Append, Accepted, Rejected, Part, PartTaken}
 use Rattle.group_quorum.specs.Voters.{IsSound}
-use Rattle.svr_base.specs.declared.limits.TheConstants.{MAX_ENTRIES, ROWS_PER_PART, TOP}
-use Rattle.group_msgs.specs.declared.TheConstants.{MAX_PARTS, MAX_LIMIT, MAX_MARGIN}
+use Rattle.values.specs.declared.limits.TheConstants.{MAX_ENTRIES, ROWS_PER_PART, TOP, MAX_PARTS, MOST_ROWS}
+use Rattle.group_quorum.specs.declared.TheConstants.{MAX_MARGIN}
 use Rattle.group_msgs.specs.declared.fault.PeerFault.{PeerFault}
 use Rattle.group_msgs.specs.Known.{Known, known_of, u64_at, u32_at, bytes_at}
 use Rattle.group_msgs.specs.Reading.{is_listed, listed_in, listed_fault, member_fault, wire_fault, member_of}
@@ -420,7 +420,7 @@ part-none-again p range hash fits rows =
     (none-or (at_most 5 MAX_MARGIN (p.margin % 2 ^ 32)) _ (none-rule _ _ (le-leb (p.margin % 2 ^ 32) MAX_MARGIN (omega (arith, margin, range.conf.at_most, range.conf.enough))))
     (none-or (voters_fault (id_bytes p.voters)) _ (voters-again p.margin p.voters range.conf)
     (none-or (rule (nat_le (2 * (p.margin % 2 ^ 32) + 1) (length (ids_in (id_bytes p.voters)))) _) _ (none-rule _ _ (enough-again p.margin p.voters range.conf))
-    (none-or (from_1_to 7 MAX_LIMIT (p.limit % 2 ^ 32)) _ (none-rule _ _ (and_from (nat_le 1 (p.limit % 2 ^ 32)) (nat_le (p.limit % 2 ^ 32) MAX_LIMIT) (le-leb 1 (p.limit % 2 ^ 32) (omega (arith, limit, range.limit_from))) (le-leb (p.limit % 2 ^ 32) MAX_LIMIT (omega (arith, limit, range.limit_to)))))
+    (none-or (from_1_to 7 MOST_ROWS (p.limit % 2 ^ 32)) _ (none-rule _ _ (and_from (nat_le 1 (p.limit % 2 ^ 32)) (nat_le (p.limit % 2 ^ 32) MOST_ROWS) (le-leb 1 (p.limit % 2 ^ 32) (omega (arith, limit, range.limit_from))) (le-leb (p.limit % 2 ^ 32) MOST_ROWS (omega (arith, limit, range.limit_to)))))
     (none-or (rule (nat_lt (p.part % 2 ^ 32) (p.parts % 2 ^ 32)) _) _ (none-rule _ _ (lt-ltb (p.part % 2 ^ 32) (p.parts % 2 ^ 32) (omega (arith, part, parts, range.part))))
     (none-or (from_1_to 9 MAX_PARTS (p.parts % 2 ^ 32)) _ (none-rule _ _ (and_from (nat_le 1 (p.parts % 2 ^ 32)) (nat_le (p.parts % 2 ^ 32) MAX_PARTS) (le-leb 1 (p.parts % 2 ^ 32) (omega (arith, parts, range.part))) (le-leb (p.parts % 2 ^ 32) MAX_PARTS (omega (arith, parts, range.parts)))))
     (none-or (rule (nat_le (length listed) ROWS_PER_PART) _) _ (none-rule _ _ (le-leb (length listed) ROWS_PER_PART (omega (arith, count, range.few)))) (none-or (rows_fault listed) None (rows-none p.rows rows fits) refl)))))))))))

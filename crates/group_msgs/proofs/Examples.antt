@@ -3,7 +3,7 @@ use Rattle.std.specs.Prelude.{◌≡◌, [], ◌∷◌, ◌++◌, Ok, Err, refl,
 use Rattle.proto_wire.specs.declared.field.WireFault.TheVariants.{Cut}
 use Rattle.proto_wire.specs.Varint.{groups, number_in}
 use Rattle.proto_wire.specs.Fields.{payload_field, field_at, sequence_behind}
-use Rattle.svr_base.specs.declared.peer.PeerMsg.TheVariants.{Vote, Rejected}
+use Rattle.values.specs.declared.peer.PeerMsg.TheVariants.{Vote, Rejected}
 use Rattle.group_msgs.specs.declared.fault.PeerFault.TheVariants.{Wire, Nothing, Range, Size}
 use Rattle.group_msgs.specs.Canonical.{canonical_peer}
 use Rattle.group_msgs.specs.Peer.{peer_of}

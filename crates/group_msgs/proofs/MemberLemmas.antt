@@ -1,7 +1,7 @@
 -- A member with one more field, and the member that stands last behind one more field of the message.
-use Rattle.std.proofs.Common.{◌≡◌, ℕ, true, false, eqb, List, [], ◌∷◌, ◌++◌, drop, take, map, filter, sym, ap, subst, ◌∙◌, inl, inr, arith}
+use Rattle.std.proofs.Common.{◌≡◌, ◌≢◌, ◌≤◌, ℕ, true, false, eqb, List, [], ◌∷◌, ◌++◌, drop, take, map, filter, Option, None, Some, refl, sym, ap, subst, ◌∙◌, inl, inr, arith}
 use Rattle.std.specs.Prelude.{is_some, nat_le, ◌&&◌, slice_range}
-use Rattle.std.proofs.lemmas.Bool.{and_parts, and_from, cases_Bool, cond-true, cond-false, eqb-true, le-leb}
+use Rattle.std.proofs.lemmas.Bool.{and_parts, and_from, cases_Bool, cond-true, cond-false, eqb-true, ne_eqb, le-leb}
 use Rattle.std.proofs.lemmas.List.{map-append, append-nil}
 use Rattle.std.proofs.lemmas.List.Elements.{filter-append}
 use Rattle.proto_wire.specs.declared.field.WireField.{WireField}
@@ -58,6 +58,17 @@ listed-embedded member f bytes is within slice =
     let n = numbered member (field_of f) is in
     embedded-member n.0 n.0 f bytes n.1 within.in_order slice
 
+-- ---- a member that begins behind another one
+
+none_so_far : (old : Member) (last : Option (ℕ × List Field)) (number : ℕ) → old.number ≢ number → IsLast old last → [] ≡ run_so_far last number
+none_so_far old None number other last = refl
+none_so_far old (Some (n, fs)) number other (is, of) = sym (cond-false (eqb n number) fs [] (ne_eqb n number (λ e. other (is ∙ e))))
+
+pub IsRun-begin : (old new : Member) (number : ℕ) (last : Option (ℕ × List Field)) → old.number ≢ number → IsLast old last → 2 ≤ number → number ≤ 8 → new.number ≡ number
+    → seen new.scalars ≡ known_of [] → ((member : ℕ) → IsList member new.listed []) → IsRun new number (run_so_far last number)
+IsRun-begin old new number last other was low high is scalars list =
+    subst (IsRun new number) (none_so_far old last number other was) (is, record { low = omega (arith, is, low); high = omega (arith, is, high); scalars = scalars; listed = list new.number })
+
 -- ---- one more field of a member
 
 pub IsRun-skip : (old new : Member) (fs : List Field) (f : Field) → is_listed old.number f ≡ false → new.number ≡ old.number → new.listed ≡ old.listed
@@ -70,12 +81,12 @@ IsRun-skip old new fs f other number listed scalars (_, of) =
         low = omega (arith, number, of.low);
         high = omega (arith, number, of.high);
         scalars = scalars;
-        listed = subst (λ (l : Listed). IsList l (map known_of (listed_in new.number (fs ++ f ∷ [])))) (sym listed) (subst (IsList old.listed) items of.listed);
+        listed = subst (λ (l : Listed). IsList new.number l (map known_of (listed_in new.number (fs ++ f ∷ [])))) (sym listed) (subst (λ (n : ℕ). IsList n old.listed (map known_of (listed_in new.number (fs ++ f ∷ [])))) (sym number) (subst (IsList old.number old.listed) items of.listed));
       },
     )
 
 pub IsRun-push : (old new : Member) (fs : List Field) (f : Field) (item : Known) → is_listed old.number f ≡ true → new.number ≡ old.number → item ≡ known_of (embedded f).fields
-    → ((all : List Known) → IsList old.listed all → IsList new.listed (all ++ item ∷ [])) → seen new.scalars ≡ known_of (fs ++ f ∷ []) → IsRun old old.number fs → IsRun new old.number (fs ++ f ∷ [])
+    → ((all : List Known) → IsList old.number old.listed all → IsList old.number new.listed (all ++ item ∷ [])) → seen new.scalars ≡ known_of (fs ++ f ∷ []) → IsRun old old.number fs → IsRun new old.number (fs ++ f ∷ [])
 IsRun-push old new fs f item is number item-is push scalars (_, of) =
     let items : map known_of (listed_in old.number fs) ++ item ∷ [] ≡ map known_of (listed_in new.number (fs ++ f ∷ [])) =
     ap (λ (x : Known). map known_of (listed_in old.number fs) ++ x ∷ []) item-is ∙ sym (map-append known_of (listed_in old.number fs) ((embedded f).fields ∷ []))
@@ -85,7 +96,7 @@ IsRun-push old new fs f item is number item-is push scalars (_, of) =
         low = omega (arith, number, of.low);
         high = omega (arith, number, of.high);
         scalars = scalars;
-        listed = subst (IsList new.listed) items (push (map known_of (listed_in old.number fs)) of.listed);
+        listed = subst (λ (n : ℕ). IsList n new.listed (map known_of (listed_in new.number (fs ++ f ∷ [])))) (sym number) (subst (IsList old.number new.listed) items (push (map known_of (listed_in old.number fs)) of.listed));
       },
     )
 

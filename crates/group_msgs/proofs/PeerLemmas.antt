@@ -8,17 +8,17 @@ use Rattle.std.proofs.lemmas.List.Elements.{All-from_recursion}
 use Rattle.proto_wire.specs.declared.field.WireFault.{WireFault}
 use Rattle.proto_wire.specs.Fields.{Field}
 use Rattle.proto_wire.specs.Reading.{block_in, embedded}
-use Rattle.svr_base.specs.declared.peer.PeerMsg.{PeerMsg}
+use Rattle.values.specs.declared.peer.PeerMsg.{PeerMsg}
 use Rattle.group_quorum.specs.Voters.{IsSound}
-use Rattle.svr_base.specs.declared.limits.TheConstants.{MAX_ENTRIES, ROWS_PER_PART, TOP}
-use Rattle.group_msgs.specs.declared.TheConstants.{MAX_PARTS, MAX_LIMIT, MAX_MARGIN}
+use Rattle.values.specs.declared.limits.TheConstants.{MAX_ENTRIES, ROWS_PER_PART, TOP, MAX_PARTS, MOST_ROWS}
+use Rattle.group_quorum.specs.declared.TheConstants.{MAX_MARGIN}
 use Rattle.group_msgs.specs.declared.fault.PeerFault.{PeerFault}
 use Rattle.group_msgs.specs.declared.fault.PeerFault.TheVariants as faults
 use Rattle.group_msgs.specs.declared.gather.Member.{Member}
 use Rattle.group_msgs.specs.Known.{Known, known_of, u64_at, u32_at, bytes_at}
 use Rattle.group_msgs.specs.Reading.{listed_in}
 use Rattle.group_msgs.specs.Gathered.{seen, IsOf, IsLast}
-use Rattle.group_msgs.specs.Canonical.{term_of}
+use Rattle.values.specs.Terms.{term_of}
 use Rattle.group_msgs.specs.Values.{ids_in, body_of, entry_of, kept_with, row_of, message_of}
 use Rattle.group_msgs.specs.Rules.{at_most, index_rule, point_fault, kind_fault, entry_fault, entries_fault, kept_fault, row_fault, rows_fault, append_fault, part_fault, fields_fault, range_fault, are_enough}
 use Rattle.group_msgs.specs.Peer.{unless_broken, checked, peer_in, ReadsPeer}
@@ -69,7 +69,7 @@ pub record IsPart (x : Known) (rows : List Known) : Type 0 where
   pub margin : u32_at 5 x ≤ MAX_MARGIN
   pub voters : AreVoters (bytes_at 6 x)
   pub enough : 2 * u32_at 5 x + 1 ≤ length (ids_in (bytes_at 6 x))
-  pub limit : (1 ≤ u32_at 7 x) × (u32_at 7 x ≤ MAX_LIMIT)
+  pub limit : (1 ≤ u32_at 7 x) × (u32_at 7 x ≤ MOST_ROWS)
   pub part : u32_at 8 x < u32_at 9 x
   pub parts : u32_at 9 x ≤ MAX_PARTS
   pub few : length rows ≤ ROWS_PER_PART
@@ -95,7 +95,7 @@ part-none x rows is =
       margin = at_most-none 5 MAX_MARGIN (u32_at 5 x) e.0;
       voters = voters-none (bytes_at 6 x) f.0;
       enough = leb-true (2 * u32_at 5 x + 1) (length (ids_in (bytes_at 6 x))) (rule-none (are_enough (u32_at 5 x) (ids_in (bytes_at 6 x))) _ g.0);
-      limit = from_1_to-none 7 MAX_LIMIT (u32_at 7 x) h.0;
+      limit = from_1_to-none 7 MOST_ROWS (u32_at 7 x) h.0;
       part = ltb-true (u32_at 8 x) (u32_at 9 x) (rule-none _ _ i.0);
       parts = (from_1_to-none 9 MAX_PARTS (u32_at 9 x) j.0).1;
       few = leb-true (length rows) ROWS_PER_PART (rule-none _ _ k.0);
@@ -228,8 +228,8 @@ few-listed number fs x none =
           ]
     ]
 
-pub kept-whole : (member : Member) (fs : List Field) → IsOf member fs → fields_fault member.number (known_of fs) (map known_of (listed_in member.number fs)) ≡ None → map seen member.listed.first.items ≡ map known_of (listed_in member.number fs)
-kept-whole member fs of none = of.listed.first ∙ take_all ROWS_PER_PART (map known_of (listed_in member.number fs)) (few-listed member.number fs (known_of fs) none)
+pub kept-whole : (member : Member) (fs : List Field) → member.listed.lost ≡ false → IsOf member fs → fields_fault member.number (known_of fs) (map known_of (listed_in member.number fs)) ≡ None → map seen member.listed.first.items ≡ map known_of (listed_in member.number fs)
+kept-whole member fs whole of none = of.listed.first whole ∙ take_all ROWS_PER_PART (map known_of (listed_in member.number fs)) (few-listed member.number fs (known_of fs) none)
 
 -- ---- the member that stands last
 
@@ -247,14 +247,14 @@ some_is : {X : Type 0} {x y : X} → Some x ≡ Some y → x ≡ y
 some_is e = cc
 
 -- a fault of the rules is what is read
-pub reads-fault : (e : PeerFault) (fault : Option PeerFault) (msg : PeerMsg) → Some e ≡ fault → ReadsPeer (Err e) (unless_broken fault msg)
-reads-fault e None msg is = absurd cc
-reads-fault faults.Memory (Some f) msg is = tt
-reads-fault (faults.Wire w) (Some f) msg is = ap Err (sym (some_is is))
-reads-fault faults.Nothing (Some f) msg is = ap Err (sym (some_is is))
-reads-fault (faults.Range n) (Some f) msg is = ap Err (sym (some_is is))
-reads-fault (faults.Size n m) (Some f) msg is = ap Err (sym (some_is is))
-reads-fault (faults.NotCanonical n) (Some f) msg is = ap Err (sym (some_is is))
+pub reads-fault : (e : PeerFault) (fault : Option PeerFault) (msg : PeerMsg) → (fault ≡ Some faults.Memory → ⊥) → Some e ≡ fault → ReadsPeer (Err e) (unless_broken fault msg)
+reads-fault e None msg other is = absurd cc
+reads-fault faults.Memory (Some f) msg other is = absurd (other (sym is))
+reads-fault (faults.Wire w) (Some f) msg other is = ap Err (sym (some_is is))
+reads-fault faults.Nothing (Some f) msg other is = ap Err (sym (some_is is))
+reads-fault (faults.Range n) (Some f) msg other is = ap Err (sym (some_is is))
+reads-fault (faults.Size n m) (Some f) msg other is = ap Err (sym (some_is is))
+reads-fault (faults.NotCanonical n) (Some f) msg other is = ap Err (sym (some_is is))
 
 pub reads-whole : (result : Result PeerMsg PeerFault) (fault : Option WireFault) (term number : ℕ) (last : Option (ℕ × List Field)) (fs : List Field) → fault ≡ None → last ≡ Some (number, fs)
     → ReadsPeer result (checked term number (known_of fs) (map known_of (listed_in number fs))) → ReadsPeer result (peer_in fault term last)

@@ -9,8 +9,8 @@ use Rattle.std.proofs.lemmas.List.Elements.{recursion_from_All, All-from_recursi
 use Rattle.std.proofs.lemmas.List.FromFn.{fill_by_all}
 use Rattle.byteorder.specs.Endian.{big_number, big_bytes}
 use Rattle.byteorder.specs.Numbers.{big_number-reads_back, length-bytes_high_first}
-use Rattle.svr_base.specs.Rising.{Rising}
-use Rattle.svr_base.proofs.RisingLists.{rising_from_increasing, increasing_from_rising}
+use Rattle.values.specs.Rising.{Rising}
+use Rattle.values.proofs.RisingLists.{rising_from_increasing, increasing_from_rising}
 use Rattle.group_quorum.specs.declared.TheConstants.{MAX_ID}
 use Rattle.group_quorum.specs.Voters.{IsId}
 use Rattle.group_msgs.specs.Canonical.{id_bytes}

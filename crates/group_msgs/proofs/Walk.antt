@@ -8,9 +8,6 @@ use Rattle.std.proofs.lemmas.List.Elements.{filter_map-append}
 use Rattle.proto_wire.specs.declared.field.WireFault.{WireFault}
 use Rattle.proto_wire.specs.Fields.{Field, Sequence, nothing, field_before, sequence_at}
 use Rattle.proto_wire.specs.Reading.{first_fault_in}
-use Rattle.group_msgs.specs.declared.fault.PeerFault.{PeerFault}
-use Rattle.group_msgs.specs.declared.fault.PeerFault.TheVariants.{Memory, Wire, Nothing, Range, Size, NotCanonical}
-use Rattle.group_msgs.specs.Gathered.{Tells}
 
 -- the sequence from an offset on
 abbrev pub rest_of : List ℕ → ℕ → Sequence
@@ -76,13 +73,3 @@ module _ (inside : Field → Option WireFault) (holds : List Field → Type 0) (
   pub walked-inside : (at : ℕ) (f : Field) (rest : Sequence) (e : WireFault) → inside f ≡ Some e → rest_of bytes at ≡ field_before f rest → IsWalkedTo inside holds bytes from at → first_fault_in inside (rest_of bytes from) ≡ Some e
   walked-inside at f rest e is on so_far =
       first_fault-rest at so_far ∙ ap (first_fault_in inside) on ∙ ap (λ (o : Option WireFault). slice_get (cons_option o (filter_map inside rest.fields) ++ option_to_list rest.fault) 0) is
-
--- what is told of a fault inside the field is told of the first
-pub tells-inside : (inside : Field → Option WireFault) (holds : List Field → Type 0) (bytes : List ℕ) (from at : ℕ) (f : Field) (rest : Sequence) (e : PeerFault) → Tells e (inside f)
-    → rest_of bytes at ≡ field_before f rest → IsWalkedTo inside holds bytes from at → Tells e (first_fault_in inside (rest_of bytes from))
-tells-inside inside holds bytes from at f rest (Wire fault) is on so_far = walked-inside inside holds bytes from at f rest fault is on so_far
-tells-inside inside holds bytes from at f rest Memory is on so_far = tt
-tells-inside inside holds bytes from at f rest Nothing is on so_far = is
-tells-inside inside holds bytes from at f rest (Range field) is on so_far = is
-tells-inside inside holds bytes from at f rest (Size field size) is on so_far = is
-tells-inside inside holds bytes from at f rest (NotCanonical place) is on so_far = is

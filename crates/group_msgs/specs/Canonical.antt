@@ -3,15 +3,16 @@ use Rattle.std.specs.Prelude.{ℕ, Bool, List, [], ◌++◌, Option, None, Some,
 use Rattle.std.specs.List.{flat_map}
 use Rattle.byteorder.specs.Endian.{big_bytes}
 use Rattle.proto_wire.specs.Written.{varint_field, block_field, message_field}
-use Rattle.svr_base.specs.declared.entry.Point.{Point}
-use Rattle.svr_base.specs.declared.entry.Body.{Body}
-use Rattle.svr_base.specs.declared.entry.Body.TheVariants.{Noop, Ask, Members}
-use Rattle.svr_base.specs.declared.entry.LogEntry.{LogEntry}
-use Rattle.svr_base.specs.declared.row.Row.{Row}
-use Rattle.svr_base.specs.declared.row.Kept.{Kept}
-use Rattle.svr_base.specs.declared.peer.TablePart.{TablePart}
-use Rattle.svr_base.specs.declared.peer.PeerMsg.{PeerMsg}
-use Rattle.svr_base.specs.declared.peer.PeerMsg.TheVariants.{AskVote, Vote, Append, Accepted, Rejected, Part, PartTaken}
+use Rattle.values.specs.Terms.{term_of}
+use Rattle.values.specs.declared.entry.Point.{Point}
+use Rattle.values.specs.declared.entry.Body.{Body}
+use Rattle.values.specs.declared.entry.Body.TheVariants.{Noop, Ask, Members}
+use Rattle.values.specs.declared.entry.LogEntry.{LogEntry}
+use Rattle.values.specs.declared.row.Row.{Row}
+use Rattle.values.specs.declared.row.Kept.{Kept}
+use Rattle.values.specs.declared.peer.TablePart.{TablePart}
+use Rattle.values.specs.declared.peer.PeerMsg.{PeerMsg}
+use Rattle.values.specs.declared.peer.PeerMsg.TheVariants.{AskVote, Vote, Append, Accepted, Rejected, Part, PartTaken}
 
 -- true is 1, and false is the default
 abbrev pub flag : Bool → ℕ
@@ -73,16 +74,6 @@ member_fields (Accepted term end promised) = point_fields end ++ varint_field 3 
 member_fields (Rejected term asked hint) = varint_field 1 asked ++ varint_field 2 hint
 member_fields (Part term part) = part_fields part
 member_fields (PartTaken term point next) = point_fields point ++ varint_field 3 next
-
--- the sender's term
-abbrev pub term_of : PeerMsg → ℕ
-term_of (AskVote term last_index last_term) = term
-term_of (Vote term granted) = term
-term_of (Append term prev entries promise commit) = term
-term_of (Accepted term end promised) = term
-term_of (Rejected term asked hint) = term
-term_of (Part term part) = term
-term_of (PartTaken term point next) = term
 
 -- the bytes of a message
 abbrev pub canonical_peer : PeerMsg → List ℕ

@@ -1,9 +1,9 @@
 -- The message that bytes stand for, or why they stand for none.
-use Rattle.std.specs.Prelude.{◌≡◌, ℕ, List, map, Option, None, Some, Result, Ok, Err, ⊤}
+use Rattle.std.specs.Prelude.{◌≡◌, ℕ, List, map, Option, None, Some, Result, Ok, Err, IsOk}
 use Rattle.proto_wire.specs.declared.field.WireFault.{WireFault}
 use Rattle.proto_wire.specs.Fields.{Field, Sequence, sequence_at}
 use Rattle.proto_wire.specs.Reading.{u64_of}
-use Rattle.svr_base.specs.declared.peer.PeerMsg.{PeerMsg}
+use Rattle.values.specs.declared.peer.PeerMsg.{PeerMsg}
 use Rattle.group_msgs.specs.declared.fault.PeerFault.{PeerFault}
 use Rattle.group_msgs.specs.declared.fault.PeerFault.TheVariants.{Memory, Wire, Nothing, Range, Size, NotCanonical}
 use Rattle.group_msgs.specs.Known.{Known, known_of}
@@ -32,10 +32,10 @@ peer_from s = peer_in (wire_fault s) (u64_of 1 s.fields) (member_of s.fields)
 abbrev pub peer_of : List ℕ → Result PeerMsg PeerFault
 peer_of bytes = peer_from (sequence_at 0 bytes)
 
--- What is read is what the bytes stand for, unless memory ran out.
+-- What is read is what the bytes stand for. Want of memory hides a value only, and no fault.
 abbrev pub ReadsPeer : Result PeerMsg PeerFault → Result PeerMsg PeerFault → Type 0
 ReadsPeer (Ok msg) read = read ≡ Ok msg
-ReadsPeer (Err Memory) read = ⊤
+ReadsPeer (Err Memory) read = IsOk read
 ReadsPeer (Err (Wire fault)) read = read ≡ Err (Wire fault)
 ReadsPeer (Err Nothing) read = read ≡ Err Nothing
 ReadsPeer (Err (Range field)) read = read ≡ Err (Range field)

@@ -2,20 +2,19 @@
 use Rattle.std.specs.Prelude.{◌≡◌, ℕ, ◌+◌, ◌<◌, ◌≤◌, ◌^◌, ⊤, true, List, length, All, Option, None, Some}
 use Rattle.group_quorum.specs.Voters.{IsSound}
 use Rattle.client_msgs.specs.Strict.{is_canonical}
-use Rattle.svr_base.specs.declared.entry.Hash.{Hash}
-use Rattle.svr_base.specs.declared.entry.Point.{Point}
-use Rattle.svr_base.specs.declared.entry.Body.{Body}
-use Rattle.svr_base.specs.declared.entry.Body.TheVariants.{Noop, Ask, Members}
-use Rattle.svr_base.specs.declared.entry.LogEntry.{LogEntry}
-use Rattle.svr_base.specs.declared.row.Row.{Row}
-use Rattle.svr_base.specs.declared.row.Kept.{Kept}
-use Rattle.svr_base.specs.declared.peer.TablePart.{TablePart}
-use Rattle.svr_base.specs.declared.peer.PeerMsg.{PeerMsg}
-use Rattle.svr_base.specs.declared.peer.PeerMsg.TheVariants.{AskVote, Vote, Append, Accepted, Rejected, Part, PartTaken}
-use Rattle.svr_base.specs.Sizes.{IsSecret, AreTries}
-use Rattle.svr_base.specs.declared.limits.TheConstants.{MAX_ENTRIES, ROWS_PER_PART, TOP}
-use Rattle.group_msgs.specs.declared.TheConstants.{MAX_PARTS, MAX_LIMIT}
-use Rattle.group_msgs.specs.Canonical.{term_of}
+use Rattle.values.specs.declared.entry.Hash.{Hash}
+use Rattle.values.specs.declared.entry.Point.{Point}
+use Rattle.values.specs.declared.entry.Body.{Body}
+use Rattle.values.specs.declared.entry.Body.TheVariants.{Noop, Ask, Members}
+use Rattle.values.specs.declared.entry.LogEntry.{LogEntry}
+use Rattle.values.specs.declared.row.Row.{Row}
+use Rattle.values.specs.declared.row.Kept.{Kept}
+use Rattle.values.specs.declared.peer.TablePart.{TablePart}
+use Rattle.values.specs.declared.peer.PeerMsg.{PeerMsg}
+use Rattle.values.specs.declared.peer.PeerMsg.TheVariants.{AskVote, Vote, Append, Accepted, Rejected, Part, PartTaken}
+use Rattle.values.specs.Sizes.{IsSecret, AreTries}
+use Rattle.values.specs.declared.limits.TheConstants.{MAX_ENTRIES, ROWS_PER_PART, TOP, MAX_PARTS, MOST_ROWS}
+use Rattle.values.specs.Terms.{term_of}
 
 -- an index, or a term
 abbrev pub IsIndex : ℕ → Type 0
@@ -52,7 +51,7 @@ pub record IsPartInRange (p : TablePart) : Type 0 where
   pub conf_index : p.conf_index ≤ p.point.index
   pub conf : IsSound (record { margin = p.margin; voters = p.voters })
   pub limit_from : 1 ≤ p.limit
-  pub limit_to : p.limit ≤ MAX_LIMIT
+  pub limit_to : p.limit ≤ MOST_ROWS
   pub part : p.part < p.parts
   pub parts : p.parts ≤ MAX_PARTS
   pub few : length p.rows ≤ ROWS_PER_PART

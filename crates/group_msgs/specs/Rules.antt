@@ -1,10 +1,9 @@
 -- The rules of a peer message's fields, in the order in which they are tried.
 use Rattle.std.specs.Prelude.{ℕ, ◌+◌, ◌*◌, ◌%◌, Bool, true, ◌&&◌, nat_le, nat_lt, ◌==◌, List, [], ◌∷◌, length, Option, Some, None, if◌then◌else◌}
 use Rattle.std.specs.Option.{option_or}
-use Rattle.group_quorum.specs.declared.TheConstants.{MAX_VOTERS, MAX_ID}
+use Rattle.group_quorum.specs.declared.TheConstants.{MAX_VOTERS, MAX_ID, MAX_MARGIN}
 use Rattle.client_msgs.specs.Strict.{is_canonical}
-use Rattle.svr_base.specs.declared.limits.TheConstants.{MAX_ENTRIES, ROWS_PER_PART, TOP}
-use Rattle.group_msgs.specs.declared.TheConstants.{MAX_PARTS, MAX_LIMIT, MAX_MARGIN}
+use Rattle.values.specs.declared.limits.TheConstants.{MAX_ENTRIES, ROWS_PER_PART, TOP, MAX_PARTS, MOST_ROWS}
 use Rattle.group_msgs.specs.declared.fault.PeerFault.{PeerFault}
 use Rattle.group_msgs.specs.declared.fault.PeerFault.TheVariants.{Range, Size, NotCanonical}
 use Rattle.group_msgs.specs.Known.{Known, u64_at, u32_at, bytes_at}
@@ -87,6 +86,14 @@ abbrev pub rows_fault : List Known → Option PeerFault
 rows_fault [] = None
 rows_fault (x ∷ rows) = option_or (row_fault x) (rows_fault rows)
 
+-- ---- what a member lists: an append its entries, a part its rows
+
+abbrev pub item_fault : (member place : ℕ) → Known → Option PeerFault
+item_fault member place x = if member == 4 then entry_fault place x else row_fault x
+
+abbrev pub items_fault : (member : ℕ) → List Known → Option PeerFault
+items_fault member listed = if member == 4 then entries_fault 0 listed else rows_fault listed
+
 -- ---- members
 
 abbrev pub point_fault : Known → Option PeerFault
@@ -111,7 +118,7 @@ part_fault x rows = first_of (
     ∷ at_most 5 MAX_MARGIN (u32_at 5 x)
     ∷ voters_fault (bytes_at 6 x)
     ∷ rule (are_enough (u32_at 5 x) (ids_in (bytes_at 6 x))) (Range 5)
-    ∷ from_1_to 7 MAX_LIMIT (u32_at 7 x)
+    ∷ from_1_to 7 MOST_ROWS (u32_at 7 x)
     ∷ rule (nat_lt (u32_at 8 x) (u32_at 9 x)) (Range 8)
     ∷ from_1_to 9 MAX_PARTS (u32_at 9 x)
     ∷ rule (nat_le (length rows) ROWS_PER_PART) (Size 10 (length rows))

@@ -1,6 +1,7 @@
 //! The rules of a message's fields, in the order in which they are tried.
 
-ghost use Rattle.std.specs.Prelude.{◌≡◌, ◌<◌, ◌≤◌, ◌^◌, ◌*◌, ℕ, List, map, length};
+ghost use Rattle.std.specs.Prelude.{◌≡◌, ◌<◌, ◌≤◌, ◌^◌, ◌*◌, ℕ, List, length};
+ghost use Rattle.std.specs.Option.{option_or};
 ghost use Rattle.std.specs.Result.{result_err};
 ghost use Rattle.group_msgs.specs.Known.{Known};
 ghost use Rattle.group_msgs.specs.Gathered.{seen, IsList};
@@ -11,14 +12,14 @@ use crate::fault::PeerFault;
 use crate::gather::Member;
 use crate::scalars::Scalars;
 use crate::voters::{are_rising, are_voters_long, ids_in};
-use crate::{MAX_LIMIT, MAX_MARGIN, MAX_PARTS};
 use client_msgs::is_canonical_request;
-use svr_base::{MAX_ENTRIES, ROWS_PER_PART, TOP};
+use group_quorum::MAX_MARGIN;
+use values::{MAX_ENTRIES, MAX_PARTS, MOST_ROWS, ROWS_PER_PART, TOP};
 
 /// The first rule that a message breaks: of its term, and then of the member's fields in rising number.
 pub(crate) fn check_ranges(term: u64, member: &Member<'_>) -> Result<(), PeerFault>
     requires { member.now.listed.count < 2 ^ 63 }
-    ensures { (listed : List Known) → IsList member.now.listed listed → result_err result ≡ rules.range_fault term member.now.number (seen member.now.scalars) listed }
+    ensures { (listed : List Known) → IsList member.now.number member.now.listed listed → result_err result ≡ rules.range_fault term member.now.number (seen member.now.scalars) listed }
 {
     at_most(1, TOP, term)?;
     let scalars = &member.scalars;
@@ -40,19 +41,19 @@ pub(crate) fn check_ranges(term: u64, member: &Member<'_>) -> Result<(), PeerFau
 
 fn check_append(append: &Member<'_>) -> Result<(), PeerFault>
     requires { append.now.listed.count < 2 ^ 63 }
-    ensures { (entries : List Known) → IsList append.now.listed entries → result_err result ≡ rules.append_fault (seen append.now.scalars) entries }
+    ensures { (entries : List Known) → IsList 4 append.now.listed entries → result_err result ≡ rules.append_fault (seen append.now.scalars) entries }
 {
     let scalars = &append.scalars;
     check_point(scalars)?;
     at_most(3, TOP, scalars.u64_at(1) + append.listed.count as u64)?;
-    let entries = append.listed.at_most(MAX_ENTRIES, 3)?;
-    check_entries(entries)?;
+    append.listed.at_most(MAX_ENTRIES, 3)?;
+    append.listed.checked?;
     check_index(4, scalars)?;
     check_index(5, scalars)
 }
 
 fn check_part(part: &Member<'_>) -> Result<(), PeerFault>
-    ensures { (rows : List Known) → IsList part.now.listed rows → result_err result ≡ rules.part_fault (seen part.now.scalars) rows }
+    ensures { (rows : List Known) → IsList 7 part.now.listed rows → result_err result ≡ rules.part_fault (seen part.now.scalars) rows }
 {
     let scalars = &part.scalars;
     check_point(scalars)?;
@@ -64,20 +65,27 @@ fn check_part(part: &Member<'_>) -> Result<(), PeerFault>
     let voters = scalars.bytes_at(6);
     check_voters(voters)?;
     rule(are_enough(margin, voters), PeerFault::Range(5))?;
-    from_1_to(7, MAX_LIMIT, scalars.u32_at(7))?;
+    from_1_to(7, MOST_ROWS, scalars.u32_at(7))?;
     rule(scalars.u32_at(8) < scalars.u32_at(9), PeerFault::Range(8))?;
     from_1_to(9, MAX_PARTS, scalars.u32_at(9))?;
-    let rows = part.listed.at_most(u64::from(ROWS_PER_PART), 10)?;
-    check_rows(rows)
+    part.listed.at_most(u64::from(ROWS_PER_PART), 10)?;
+    part.listed.checked
 }
 
-fn check_entries(entries: &[Scalars<'_>]) -> Result<(), PeerFault>
-    ensures { result_err result ≡ rules.entries_fault 0 (map seen entries.now) }
+/// What the rules find of a member's list up to this message, where they found `so_far` of those before it.
+pub(crate) fn check_next(
+    so_far: Result<(), PeerFault>,
+    member: u64,
+    place: u64,
+    item: &Scalars<'_>,
+) -> Result<(), PeerFault>
+    ensures { result_err result ≡ option_or (result_err so_far) (rules.item_fault member place (seen item.now)) }
 {
-    for (place, entry) in entries.iter().enumerate() {
-        check_entry(place as u64, entry)?;
+    so_far?;
+    match member {
+        4 => check_entry(place, item),
+        _ => check_row(item),
     }
-    Ok(())
 }
 
 fn check_entry(place: u64, entry: &Scalars<'_>) -> Result<(), PeerFault>
@@ -109,18 +117,9 @@ fn check_members(members: &Scalars<'_>) -> Result<(), PeerFault>
     let voters = members.bytes_at(6);
     check_voters(voters)?;
     rule(
-        margin <= MAX_MARGIN && are_enough(margin, voters),
+        margin <= u32::from(MAX_MARGIN) && are_enough(margin, voters),
         PeerFault::Range(7),
     )
-}
-
-fn check_rows(rows: &[Scalars<'_>]) -> Result<(), PeerFault>
-    ensures { result_err result ≡ rules.rows_fault (map seen rows.now) }
-{
-    for row in rows {
-        check_row(row)?;
-    }
-    Ok(())
 }
 
 fn check_row(row: &Scalars<'_>) -> Result<(), PeerFault>

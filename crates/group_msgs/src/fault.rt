@@ -4,7 +4,7 @@ ghost use Rattle.std.specs.Prelude.{◌≡◌};
 ghost use Rattle.group_msgs.specs.declared.fault.PeerFault.TheVariants as faults;
 
 use proto_wire::WireFault;
-use svr_base::Memory;
+use values::Memory;
 
 /// Why bytes are no peer message. `Range` and `Size` name the field's number inside the member, or inside the
 /// entry or row that breaks the rule, and for the message's term 1.

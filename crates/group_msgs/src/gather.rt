@@ -9,12 +9,11 @@ ghost use Rattle.proto_wire.specs.Reading.{u64_of, varint_under, first_fault_in,
 ghost use Rattle.proto_wire.specs.Reading as wire;
 ghost use Rattle.group_msgs.specs.Reading.{listed_fault, member_fault, wire_fault, member_of};
 ghost use Rattle.group_msgs.specs.Reading as reading;
-ghost use Rattle.group_msgs.specs.Gathered.{IsRun, IsLast, Tells};
+ghost use Rattle.group_msgs.specs.Gathered.{IsRun, IsLast};
 
-use crate::fault::PeerFault;
 use crate::listed::Listed;
 use crate::scalars::Scalars;
-use proto_wire::{Payload, WireField, next_field};
+use proto_wire::{Payload, WireFault, WireField, next_field};
 use std::alloc::Global;
 
 /// A member of the oneof; number 0 where none stands yet.
@@ -49,7 +48,7 @@ impl<'a> Member<'a> {
     }
 
     /// Takes one more field of the bytes in. A listed message is read where it stands.
-    fn take(&mut self, bytes: &'a [u8], field: WireField<'a>) -> Result<(), PeerFault>
+    fn take(&mut self, bytes: &'a [u8], field: WireField<'a>) -> Result<(), WireFault>
         requires count { self.old.listed.count < 2 ^ 63 }
         requires within { IsWithin field bytes.now }
         requires slice { IsSlice field.payload (slice_range bytes.now field.content_at field.next) }
@@ -57,23 +56,24 @@ impl<'a> Member<'a> {
         ensures number { self.new.number ≡ self.old.number }
         ensures count { self.new.listed.count ≤ self.old.listed.count + 1 }
         ensures whole { OnOk result (listed_fault self.old.number (field_of field.entry) ≡ None) }
-        ensures fault { IfErr result (λ e. Tells e (listed_fault self.old.number (field_of field.entry))) }
+        ensures fault { IfErr result (λ e. listed_fault self.old.number (field_of field.entry) ≡ Some e) }
     {
         self.scalars.take(field);
         if !is_listed(self.number, &field) {
             return Ok(());
         }
-        self.listed.read(&bytes[..field.next], field.content_at)
+        self.listed
+            .read(self.number, &bytes[..field.next], field.content_at)
     }
 
     /// Reads the fields from an offset to the end of the bytes on into the member.
-    fn read_on(&mut self, bytes: &'a [u8], from: usize) -> Result<(), PeerFault>
+    fn read_on(&mut self, bytes: &'a [u8], from: usize) -> Result<(), WireFault>
         requires from { from ≤ length bytes.now }
         requires count { self.old.listed.count ≤ from }
         ensures run { OnOk result ((fs : List Field) → IsRun self.old self.old.number fs → IsRun self.new self.old.number (fs ++ (sequence_at from (drop from bytes.now)).fields)) }
         ensures count { self.new.listed.count ≤ length bytes.now }
         ensures whole { OnOk result (first_fault_in (listed_fault self.old.number) (sequence_at from (drop from bytes.now)) ≡ None) }
-        ensures fault { IfErr result (λ e. Tells e (first_fault_in (listed_fault self.old.number) (sequence_at from (drop from bytes.now)))) }
+        ensures fault { IfErr result (λ e. first_fault_in (listed_fault self.old.number) (sequence_at from (drop from bytes.now)) ≡ Some e) }
     {
         let mut at = from;
         while let Some(field) = next_field(bytes, at)? {
@@ -86,7 +86,7 @@ impl<'a> Member<'a> {
 
 impl<'a> Gathered<'a> {
     /// Takes one more field of the bytes in. A member is read where it stands.
-    fn take(&mut self, bytes: &'a [u8], field: WireField<'a>) -> Result<(), PeerFault>
+    fn take(&mut self, bytes: &'a [u8], field: WireField<'a>) -> Result<(), WireFault>
         requires count { self.old.member.listed.count ≤ field.at }
         requires within { IsWithin field bytes.now }
         requires slice { IsSlice field.payload (slice_range bytes.now field.content_at field.next) }
@@ -94,7 +94,7 @@ impl<'a> Gathered<'a> {
         ensures last { OnOk result ((fs : List Field) → IsLast self.old.member (member_of fs) → IsLast self.new.member (member_of (fs ++ field_of field.entry ∷ []))) }
         ensures count { self.new.member.listed.count ≤ field.entry.next }
         ensures whole { OnOk result (member_fault (field_of field.entry) ≡ None) }
-        ensures fault { IfErr result (λ e. Tells e (member_fault (field_of field.entry))) }
+        ensures fault { IfErr result (λ e. member_fault (field_of field.entry) ≡ Some e) }
     {
         self.term = term_behind(self.term, &field);
         if !is_member(&field) {
@@ -134,14 +134,13 @@ fn is_listed(member: u64, field: &WireField<'_>) -> bool
     field.number == list && matches!(field.payload, Payload::Block(_))
 }
 
-/// The term of a message and the member that stands last in it, or the first fault in the order of the bytes, which
-/// want of memory may hide.
-pub(crate) fn gather(alloc: Global, bytes: &[u8]) -> Result<Gathered<'_>, PeerFault>
+/// The term of a message and the member that stands last in it, or the first fault in the order of the bytes.
+pub(crate) fn gather(alloc: Global, bytes: &[u8]) -> Result<Gathered<'_>, WireFault>
     ensures count { IfOk result (λ gathered. gathered.member.listed.count < 2 ^ 63) }
     ensures term { IfOk result (λ gathered. gathered.term ≡ u64_of 1 (sequence_at 0 bytes.now).fields) }
     ensures last { IfOk result (λ gathered. IsLast gathered.member (member_of (sequence_at 0 bytes.now).fields)) }
     ensures whole { IfOk result (λ _. wire_fault (sequence_at 0 bytes.now) ≡ None) }
-    ensures fault { IfErr result (λ e. Tells e (wire_fault (sequence_at 0 bytes.now))) }
+    ensures fault { IfErr result (λ e. wire_fault (sequence_at 0 bytes.now) ≡ Some e) }
 {
     let mut gathered = Gathered {
         term: 0,

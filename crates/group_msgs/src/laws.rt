@@ -1,7 +1,7 @@
 //! What is written is read again.
 
 ghost use Rattle.std.specs.Prelude.{◌≡◌, Ok};
-ghost use Rattle.svr_base.specs.declared.peer.PeerMsg.{PeerMsg};
+ghost use Rattle.values.specs.declared.peer.PeerMsg.{PeerMsg};
 ghost use Rattle.group_msgs.specs.Canonical.{canonical_peer};
 ghost use Rattle.group_msgs.specs.Peer.{peer_of};
 ghost use Rattle.group_msgs.specs.Ranges.{IsInRange, FitsPeer};

@@ -34,10 +34,3 @@ pub use write::write_peer;
 
 #[cfg(test)]
 mod tests;
-
-/// The greatest number of parts of a table.
-pub const MAX_PARTS: u32 = 625;
-/// The greatest number of rows of a table.
-pub const MAX_LIMIT: u32 = 20_000;
-/// The greatest margin of a configuration.
-pub const MAX_MARGIN: u32 = 15;

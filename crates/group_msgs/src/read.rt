@@ -18,7 +18,7 @@ use crate::scalars::Scalars;
 use crate::voters::ids_in;
 use group_quorum::MAX_VOTERS;
 use std::alloc::Global;
-use svr_base::{
+use values::{
     Body, Bytes, ClientId, Entries, Hash, Ids, Kept, LogEntry, Memory, PeerMsg, Point, Row, Rows,
     TablePart,
 };
@@ -29,7 +29,7 @@ use svr_base::{
 /// member twice in a row is read on into one value, and its lists gather in order. Unknown fields, and known
 /// numbers of another wire type, count for nothing. `Wire` carries the first fault in the order of the bytes,
 /// counted from their start. Without one, `Nothing` comes where no member stands, and else the first rule that
-/// is broken: of the term, and then of the member's fields in rising number. `Memory` may hide any of these.
+/// is broken: of the term, and then of the member's fields in rising number. `Memory` hides a message only, and none of these.
 pub fn read_peer(alloc: Global, bytes: &[u8]) -> Result<PeerMsg, PeerFault>
     ensures exact { ReadsPeer result (peer_of bytes.now) }
     ensures in_range { IfOk result (λ msg. IsInRange msg) }
@@ -49,6 +49,9 @@ fn checked(alloc: Global, term: u64, member: &Member<'_>) -> Result<PeerMsg, Pee
     ensures in_range { IfOk result (λ msg. IsInRange msg) }
 {
     check_ranges(term, member)?;
+    if member.listed.lost {
+        return Err(PeerFault::Memory);
+    }
     let msg = message(alloc, term, member)?;
     Ok(msg)
 }

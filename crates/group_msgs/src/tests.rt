@@ -3,7 +3,7 @@ use client_msgs::write_request;
 use proto_wire::WireFault;
 use std::alloc::{AllocError, Global};
 use std::test::Fail;
-use svr_base::{
+use values::{
     Body, Bytes, ClientId, Entries, Hash, Ids, Kept, LogEntry, Memory, PeerMsg, Point, Request,
     Row, Rows, TablePart,
 };

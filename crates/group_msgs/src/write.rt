@@ -2,6 +2,7 @@
 
 ghost use Rattle.std.specs.Prelude.{◌≡◌, ◌≤◌, ◌++◌, length, All, IfOk, OnOk};
 ghost use Rattle.proto_wire.specs.Written.{block_field};
+ghost use Rattle.values.specs.Terms.{term_of};
 ghost use Rattle.group_msgs.specs.Canonical as canonical;
 ghost use Rattle.group_msgs.specs.Ranges.{IsInRange, IsEntryInRange};
 
@@ -9,7 +10,7 @@ use byteorder::{BigEndian, ByteOrder};
 use group_quorum::MAX_VOTERS;
 use proto_wire::FieldWriter;
 use std::alloc::Global;
-use svr_base::{Body, Bytes, Kept, LogEntry, Memory, PeerMsg, Point, Row, TablePart};
+use values::{Body, Bytes, Kept, LogEntry, Memory, PeerMsg, Point, Row, TablePart};
 
 /// Room for a member of sixteen backups, so that one allocation serves.
 const MEMBER_ROOM: usize = 2048;
@@ -47,7 +48,7 @@ fn put_member(
     msg: &PeerMsg,
 ) -> Result<(u64, u32), proto_wire::Memory>
     requires { IsInRange msg.now }
-    ensures head { IfOk result (λ head. (head.0 ≡ canonical.term_of msg.now) × (head.1 ≡ canonical.member_number msg.now)) }
+    ensures head { IfOk result (λ head. (head.0 ≡ term_of msg.now) × (head.1 ≡ canonical.member_number msg.now)) }
     ensures fields { OnOk result (fields.new ≡ fields.old ++ canonical.member_fields msg.now) }
 {
     match msg {

@@ -13,23 +13,23 @@ use Rattle.client_msgs.specs.Sizes.{FitsResponse}
 use Rattle.group_quorum.specs.Voters.{is_id}
 use Rattle.group_msgs.specs.Canonical.{canonical_peer}
 use Rattle.attested_link.specs.Frames.{link_frame, frame_bytes}
-use Rattle.svr_base.specs.declared.limits.TheConstants.{TOP}
-use Rattle.svr_base.specs.declared.batch.Refusal.{Refusal}
-use Rattle.svr_base.specs.declared.batch.Refusal.TheVariants as refusal
-use Rattle.svr_base.specs.declared.entry.Body.{Body}
-use Rattle.svr_base.specs.declared.entry.Body.TheVariants as body
-use Rattle.svr_base.specs.declared.entry.Hash.{Hash}
-use Rattle.svr_base.specs.declared.entry.LogEntry.{LogEntry}
-use Rattle.svr_base.specs.declared.entry.Point.{Point}
-use Rattle.svr_base.specs.declared.ids.ClientId.{ClientId}
-use Rattle.svr_base.specs.declared.message.Answer.{Answer}
-use Rattle.svr_base.specs.declared.message.Answer.TheVariants as answer
-use Rattle.svr_base.specs.declared.message.Part.{Part}
-use Rattle.svr_base.specs.declared.message.Part.TheVariants as part
-use Rattle.svr_base.specs.declared.message.Reply.{Reply}
-use Rattle.svr_base.specs.declared.message.Response.{Response}
-use Rattle.svr_base.specs.declared.message.Reply.TheVariants as reply
-use Rattle.svr_base.specs.declared.peer.PeerMsg.{PeerMsg}
+use Rattle.values.specs.declared.limits.TheConstants.{TOP}
+use Rattle.values.specs.declared.batch.Refusal.{Refusal}
+use Rattle.values.specs.declared.batch.Refusal.TheVariants as refusal
+use Rattle.values.specs.declared.entry.Body.{Body}
+use Rattle.values.specs.declared.entry.Body.TheVariants as body
+use Rattle.values.specs.declared.entry.Hash.{Hash}
+use Rattle.values.specs.declared.entry.LogEntry.{LogEntry}
+use Rattle.values.specs.declared.entry.Point.{Point}
+use Rattle.values.specs.declared.ids.ClientId.{ClientId}
+use Rattle.values.specs.declared.message.Answer.{Answer}
+use Rattle.values.specs.declared.message.Answer.TheVariants as answer
+use Rattle.values.specs.declared.message.Part.{Part}
+use Rattle.values.specs.declared.message.Part.TheVariants as part
+use Rattle.values.specs.declared.message.Reply.{Reply}
+use Rattle.values.specs.declared.message.Response.{Response}
+use Rattle.values.specs.declared.message.Reply.TheVariants as reply
+use Rattle.values.specs.declared.peer.PeerMsg.{PeerMsg}
 use Rattle.host_msgs.specs.declared.item.Item.{Item}
 use Rattle.host_msgs.specs.declared.item.Item.TheVariants as item
 use Rattle.host_msgs.specs.Refusals.{refusal_numbers, refusal_of, one_number}

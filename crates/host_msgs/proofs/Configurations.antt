@@ -1,24 +1,29 @@
 -- Which voters are those of a configuration.
-use Rattle.std.proofs.Common.{◌≡◌, ℕ, ◌<◌, ◌≤◌, Bool, true, false, cond, ltb, List, [], ◌∷◌, length, Option, Some, None, Result, Ok, Err, refl, sym, ap, subst, ◌∙◌, arith, inl, inr}
-use Rattle.std.specs.Prelude.{◌&&◌, nat_le, is_none, IfOk}
+use Rattle.std.proofs.Common.{◌≡◌, ℕ, zero, suc, ◌+◌, get_or, ◌<◌, ◌≤◌, Bool, true, false, cond, ltb, List, [], ◌∷◌, length, Option, Some, None, Result, Ok, Err, refl, sym, ap, subst, ◌∙◌, arith, inl, inr}
+use Rattle.std.specs.Prelude.{◌&&◌, nat_le, is_none, IfOk, IsSome}
 use Rattle.std.specs.List.{AllByRecursion}
+use Rattle.std.specs.List.Sorted.{IsStrictlyIncreasing}
 use Rattle.std.specs.Option.{SomeIff}
 use Rattle.std.specs.Int.{w8, w64}
 use Rattle.std.proofs.lemmas.Bool.{cases_Bool, and_parts, lt-ltb, ltb-true, false≢true}
 use Rattle.fixed_fields.specs.Fields.{number_at}
 use Rattle.fixed_fields.specs.Formats.{◌>>=◌, numbers_in}
-use Rattle.svr_base.specs.Rising.{Rising}
-use Rattle.svr_base.specs.declared.memory.Memory.{Memory}
+use Rattle.values.specs.Rising.{Rising}
+use Rattle.values.specs.declared.memory.Memory.{Memory}
 use Rattle.group_quorum.specs.Conf.{Conf}
 use Rattle.group_quorum.specs.Voters.{fault_of, conf_or, conf_of}
 use Rattle.group_quorum.specs.declared.ConfigFault.{ConfigFault}
 use Rattle.host_msgs.specs.Items.{only_if, is_rising, is_conf, members_head, members_fields, members_in}
 use Rattle.host_msgs.specs.Reading.{Finds}
-use Rattle.svr_base.specs.declared.limits.TheConstants.{TOP}
+use Rattle.values.specs.declared.limits.TheConstants.{TOP}
 use Rattle.host_msgs.specs.declared.item.Item.{Item}
 use Rattle.host_msgs.specs.declared.item.Item.TheVariants as item
 
 -- ---- rising, as a test and as a fact
+
+and_false : (b : Bool) → (b && false) ≡ false
+and_false true = refl
+and_false false = refl
 
 below_all : (v w : ℕ) (vs : List ℕ) → v < w → AllByRecursion (λ x. w < x) vs → AllByRecursion (λ x. v < x) vs
 below_all v w [] lt h = tt
@@ -52,6 +57,10 @@ pub made_not : (margin : ℕ) (ids : List ℕ) (fault : ConfigFault) → Err fau
 unfolding is_conf
 made_not margin ids fault e = rw (some_fault (fault_of margin ids) margin ids fault e) refl
 
+pub made_other : (margin : ℕ) (ids : List ℕ) (r : Result Conf ConfigFault) → r ≡ conf_of margin ids → ((conf : Conf) → r ≡ Ok conf → ⊥) → only_if (is_conf margin ids) ids ≡ None
+made_other margin ids (Ok conf) e never = absurd (never conf refl)
+made_other margin ids (Err fault) e never = made_not margin ids fault e
+
 found_if : (margin : ℕ) (ids : List ℕ) (found : Option (List ℕ)) → is_none (fault_of margin ids) ≡ true → SomeIff found (Rising ids) ids → only_if (is_conf margin ids) ids ≡ found
 unfolding is_conf
 found_if margin ids None none not = by_test (is_rising ids) refl
@@ -61,20 +70,41 @@ found_if margin ids None none not = by_test (is_rising ids) refl
     by_test false e = rw (none, e) refl
 found_if margin ids (Some found) none is = rw (none, is_rising-Rising ids is.0) (ap Some (sym is.1))
 
-pub made : (margin : ℕ) (ids : List ℕ) (conf : Conf) → Ok conf ≡ conf_of margin ids → (r : Result (Option (List ℕ)) Memory) → IfOk r (λ found. SomeIff found (Rising ids) ids)
+pub made : (margin : ℕ) (ids : List ℕ) (conf : Conf) → Ok conf ≡ conf_of margin ids → is_rising ids ≡ true → (r : Result (Option (List ℕ)) Memory) → IfOk r (λ found. SomeIff found (Rising ids) ids)
     → Finds r (only_if (is_conf margin ids) ids)
-made margin ids conf e (Ok found) is = found_if margin ids found (no_fault (fault_of margin ids) margin ids conf e) is
-made margin ids conf e (Err memory) is = tt
+unfolding is_conf
+made margin ids conf e up (Ok found) is = found_if margin ids found (no_fault (fault_of margin ids) margin ids conf e) is
+made margin ids conf e up (Err memory) is = rw (no_fault (fault_of margin ids) margin ids conf e, up) refl
+
+-- ---- rising, by their indices
+
+pub is_rising-from : (ids : List ℕ) → IsStrictlyIncreasing ids → is_rising ids ≡ true
+is_rising-from [] up = refl
+is_rising-from (v ∷ []) up = refl
+is_rising-from (v ∷ w ∷ vs) up = rw (lt-ltb v w (up zero (omega arith))) (is_rising-from (w ∷ vs) (λ k within. let e : suc k + 1 ≡ suc (k + 1) = omega arith in subst (λ n. get_or (w ∷ vs) k 0 < get_or (v ∷ w ∷ vs) n 0) e (up (suc k) (omega arith))))
+
+pub increasing-from : (ids : List ℕ) → is_rising ids ≡ true → IsStrictlyIncreasing ids
+increasing-from [] e k within = absurd (omega arith)
+increasing-from (v ∷ []) e k within = absurd (omega arith)
+increasing-from (v ∷ w ∷ vs) e zero within = ltb-true v w (and_parts (ltb v w) (is_rising (w ∷ vs)) e).0
+increasing-from (v ∷ w ∷ vs) e (suc k) within =
+    let i : suc (k + 1) ≡ suc k + 1 = omega arith in
+    subst (λ n. get_or (w ∷ vs) k 0 < get_or (v ∷ w ∷ vs) n 0) i (increasing-from (w ∷ vs) (and_parts (ltb v w) (is_rising (w ∷ vs)) e).1 k (omega arith))
+
+-- a configuration has its voters in another order where the ids do not rise
+pub unordered : (margin : ℕ) (ids : List ℕ) (conf : Conf) → (IsStrictlyIncreasing ids → conf.voters ≡ ids) → (conf.voters ≡ ids → ⊥) → only_if (is_conf margin ids) ids ≡ None
+unfolding is_conf
+unordered margin ids conf in_order other = by (is_rising ids) refl
+  where
+    by : (b : Bool) → is_rising ids ≡ b → only_if (is_none (fault_of margin ids) && is_rising ids) ids ≡ None
+    by true e = absurd (other (in_order (increasing-from ids e)))
+    by false e = rw (e, and_false (is_none (fault_of margin ids))) refl
 
 -- ---- more ids than a short list has
 
 too_many : (margin : ℕ) (ids : List ℕ) → 255 < length ids → is_conf margin ids ≡ false
 unfolding is_conf
 too_many margin ids many = rw (lt-ltb 31 (length ids) (omega (arith, many))) refl
-
-and_false : (b : Bool) → (b && false) ≡ false
-and_false true = refl
-and_false false = refl
 
 abbrev Head : Type 0
 Head = ℕ × (ℕ × List ℕ)

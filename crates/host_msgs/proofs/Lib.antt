@@ -1,6 +1,7 @@
 mod Again
 mod Configurations
 mod Shorts
+mod Marks
 mod Walks
 mod Whole
 mod Taken

@@ -8,16 +8,17 @@ use Rattle.fixed_fields.specs.Fields.{number_bytes, number_at, block_at}
 use Rattle.fixed_fields.specs.Formats.{◌>>=◌, IsBytes}
 use Rattle.fixed_fields.proofs.Bytes.{IsBytes-behind, wide8, wide32}
 use Rattle.fixed_fields.proofs.Laws.{bind_some, some_is, number_is, block_is}
-use Rattle.svr_base.specs.declared.batch.Batch.{Batch}
+use Rattle.values.specs.declared.batch.Batch.{Batch}
 use Rattle.host_msgs.specs.declared.fault.BatchFault.{BatchFault}
 use Rattle.host_msgs.specs.declared.gathered.Gathered.{Gathered}
 use Rattle.host_msgs.specs.declared.item.Item.{Item}
 use Rattle.host_msgs.specs.declared.item.Item.TheVariants as item
 use Rattle.host_msgs.specs.Items.{only_if, item_in}
-use Rattle.host_msgs.specs.Batches.{item_bytes, item_at, is_in_place, placed, next_in, none_yet, or_at, gathered_from, batch_in}
+use Rattle.host_msgs.specs.Batches.{item_bytes, item_at, is_in_place, sender_of, passed, with_item, placed, next_in, none_yet, or_at, gathered_from, batch_in}
 use Rattle.host_msgs.specs.Needs.{IsShort}
 use Rattle.host_msgs.specs.Walking.{ReadsBatch}
 use Rattle.host_msgs.specs.Listed.{Listed, AreInOrder, all_placed, AreListed, IsListed}
+use Rattle.host_msgs.proofs.Marks.{with_item-marks}
 use Rattle.host_msgs.proofs.Walks.{done}
 
 -- ---- the item at the front
@@ -79,16 +80,14 @@ held_some : (b : Bool) (x y : Gathered) → only_if b x ≡ Some y → x ≡ y
 held_some true x y e = some_is x y e
 held_some false x y e = absurd cc
 
+passed_last : (g : Gathered) (kind : ℕ) (s : Option ℕ) (g' : Gathered) → passed g kind s ≡ Some g' → kind ≡ g'.last
+passed_last g kind None g' e = ap (λ (h : Gathered). h.last) (some_is _ g' e)
+passed_last g kind (Some from) g' e = ap (λ (h : Gathered). h.last) (held_some _ _ g' e)
+
 last_is : (g : Gathered) (kind : ℕ) (i : Item) (g' : Gathered) → placed g kind i ≡ Some g' → kind ≡ g'.last
-last_is g kind (item.Lead term) g' e = ap (λ (h : Gathered). h.last) (some_is _ g' e)
-last_is g kind (item.Members index margin voters) g' e = ap (λ (h : Gathered). h.last) (some_is _ g' e)
-last_is g kind (item.Halt index kept offered) g' e = ap (λ (h : Gathered). h.last) (some_is _ g' e)
-last_is g kind (item.Taken point) g' e = ap (λ (h : Gathered). h.last) (some_is _ g' e)
-last_is g kind (item.Commit index entry) g' e = ap (λ (h : Gathered). h.last) (some_is _ g' e)
-last_is g kind (item.Answer client number answer) g' e = ap (λ (h : Gathered). h.last) (some_is _ g' e)
-last_is g kind (item.Sent from to message frame) g' e = ap (λ (h : Gathered). h.last) (held_some _ _ g' e)
-last_is g kind (item.Saved k) g' e = ap (λ (h : Gathered). h.last) (some_is _ g' e)
-last_is g kind (item.Refused why) g' e = ap (λ (h : Gathered). h.last) (some_is _ g' e)
+last_is g kind i g' e =
+    let p = bind_some (passed g kind (sender_of i)) (λ h. Some (with_item h i)) g' e in
+    passed_last g kind (sender_of i) p.value p.first ∙ sym (with_item-marks p.value i).last ∙ ap (λ (h : Gathered). h.last) (some_is (with_item p.value i) g' p.then)
 
 -- ---- all of them
 

@@ -1,14 +1,18 @@
 -- Walking through the items of a batch.
-use Rattle.std.proofs.Common.{◌≡◌, ℕ, zero, suc, ◌+◌, ◌-◌, ◌<◌, ◌≤◌, Bool, true, false, eqb, ltb, List, [], ◌∷◌, length, drop, take, Option, Some, None, Result, Ok, Err, refl, sym, ap, subst, ◌∙◌, arith}
+use Rattle.std.proofs.Common.{◌≡◌, ℕ, zero, suc, ◌+◌, ◌-◌, ◌<◌, ◌≤◌, Bool, true, false, cond, eqb, ltb, List, [], ◌∷◌, length, drop, take, Option, Some, None, Result, Ok, Err, refl, sym, ap, subst, ◌∙◌, arith}
 use Rattle.std.specs.Int.{Width, byte_len, from_be_bytes}
 use Rattle.std.proofs.lemmas.Bool.{ltb-false, eqb-true, false≢true}
 use Rattle.std.proofs.lemmas.List.{length-drop, nil_from_length}
 use Rattle.fixed_fields.specs.Fields.{number_at, block_at}
 use Rattle.fixed_fields.proofs.Laws.{guard_some}
 use Rattle.host_msgs.specs.declared.gathered.Gathered.{Gathered}
-use Rattle.std.specs.Prelude.{IfSome}
-use Rattle.host_msgs.specs.Walking.{Nexts, ReadsBatch}
-use Rattle.host_msgs.specs.Batches.{next_in, none_yet, or_at, gathered_from, batch_in}
+use Rattle.std.specs.Prelude.{IfSome, IsOk, IsSome}
+use Rattle.fixed_fields.specs.Formats.{◌>>=◌}
+use Rattle.host_msgs.specs.declared.item.Item.{Item}
+use Rattle.host_msgs.specs.declared.read.Reading.{Reading}
+use Rattle.host_msgs.specs.Items.{item_in}
+use Rattle.host_msgs.specs.Walking.{Stands, Follows, Nexts, ReadsBatch}
+use Rattle.host_msgs.specs.Batches.{item_at, is_in_place, placed, next_in, none_yet, or_at, gathered_from, batch_in}
 
 -- ---- what stands behind a field is shorter
 
@@ -84,17 +88,58 @@ ends content rest g w none =
 
 -- ---- what a step answers
 
-pub next_some : {S : Type 0} (view : S → List ℕ) (o : Option S) (behind : S) (g' : Gathered) (there : Option (Gathered × List ℕ)) → o ≡ Some behind → Nexts view (Ok o) g' there → there ≡ Some (g', view behind)
-next_some view o behind g' there is next = subst (λ p. Nexts view (Ok p) g' there) is next
+pub next_is : (g : Gathered) (bytes : List ℕ) (kind : ℕ) (content behind : List ℕ) (i : Item) → item_at bytes ≡ Some ((kind, content), behind) → is_in_place g.last kind ≡ true → item_in kind content ≡ Some i
+    → next_in g bytes ≡ (placed g kind i >>= λ g'. Some (g', behind))
+next_is g bytes kind content behind i front in-place says = rw (front, in-place, says) refl
 
-pub next_none : {S : Type 0} (view : S → List ℕ) (o : Option S) (g' : Gathered) (there : Option (Gathered × List ℕ)) → o ≡ None → Nexts view (Ok o) g' there → there ≡ None
-next_none view o g' there is next = subst (λ p. Nexts view (Ok p) g' there) is next
+pub next_follows : {S : Type 0} (view : S → List ℕ) (holds : Bool) (behind : S) (new : Reading) (there : Option Gathered) → Follows holds new there
+    → Nexts view (cond holds (Some behind) None) new (there >>= λ g'. Some (g', view behind))
+next_follows view true behind new (Some g) is = (g, refl, is)
+next_follows view true behind new None is = absurd is
+next_follows view false behind new there is = ap (λ (o : Option Gathered). o >>= λ g'. Some (g', view behind)) is
+
+-- an item that may stand here
+module _ {S : Type 0} (view : S → List ℕ) (r new : Reading) (g : Gathered) (bytes : List ℕ) (kind : ℕ) (content : List ℕ) (behind : S)
+    (stands : Stands r g) (front : item_at bytes ≡ Some ((kind, content), view behind)) (in-place : is_in_place r.gathered.last kind ≡ true) where
+  in_place : is_in_place g.last kind ≡ true
+  in_place = subst (λ (last : ℕ). is_in_place last kind ≡ true) stands.marks.last in-place
+
+  pub item_next : (holds : Bool) (i : Item) → item_in kind content ≡ Some i → Follows holds new (placed g kind i) → Nexts view (cond holds (Some behind) None) new (next_in g bytes)
+  item_next holds i says follows = subst (Nexts view (cond holds (Some behind) None) new) (sym (next_is g bytes kind content (view behind) i front in_place says)) (next_follows view holds behind new (placed g kind i) follows)
+
+  pub some_next : (holds : Bool) → IsSome (item_in kind content) → ((i : Item) → item_in kind content ≡ Some i → Follows holds new (placed g kind i)) → Nexts view (cond holds (Some behind) None) new (next_in g bytes)
+  some_next holds some follows = by (item_in kind content) refl some
+    where
+      by : (o : Option Item) → item_in kind content ≡ o → IsSome o → Nexts view (cond holds (Some behind) None) new (next_in g bytes)
+      by (Some i) is some = item_next holds i is (follows i is)
+      by None is some = absurd cc
+
+  pub no_next : item_in kind content ≡ None → next_in g bytes ≡ None
+  no_next says = rw (front, in_place, says) refl
+
+pub if_stands : {S : Type 0} (view : S → List ℕ) (holds : Bool) (o p : Option S) (new : Reading) (there : Option (Gathered × List ℕ)) → holds ≡ true → Nexts view (cond holds o p) new there → Nexts view o new there
+if_stands view holds o p new there is next = subst (λ (b : Bool). Nexts view (cond b o p) new there) is next
+
+pub unless_stands : {S : Type 0} (view : S → List ℕ) (holds : Bool) (o p : Option S) (new : Reading) (there : Option (Gathered × List ℕ)) → holds ≡ false → Nexts view (cond holds o p) new there → Nexts view p new there
+unless_stands view holds o p new there is next = subst (λ (b : Bool). Nexts view (cond b o p) new there) is next
+
+pub next_some : {S : Type 0} (view : S → List ℕ) (o : Option S) (behind : S) (new : Reading) (there : Option (Gathered × List ℕ)) → o ≡ Some behind → Nexts view o new there → (g : Gathered) × (there ≡ Some (g, view behind)) × Stands new g
+next_some view o behind new there is next = subst (λ p. Nexts view p new there) is next
+
+pub next_none : {S : Type 0} (view : S → List ℕ) (o : Option S) (new : Reading) (there : Option (Gathered × List ℕ)) → o ≡ None → Nexts view o new there → there ≡ None
+next_none view o new there is next = subst (λ p. Nexts view p new there) is next
 
 pub next_shorter : {S : Type 0} (view : S → List ℕ) (o : Option S) (behind : S) (n : ℕ) → o ≡ Some behind → IfSome o (λ b. length (view b) < n) → length (view behind) < n
 next_shorter view o behind n is short = subst (λ p. IfSome p (λ b. length (view b) < n)) is short
 
-pub reads_whole : (g : Gathered) (there : Result Gathered ℕ) → there ≡ Ok g → ReadsBatch (Ok (g.sender, g.batch, g.frames)) there
-reads_whole g there e = subst (ReadsBatch (Ok (g.sender, g.batch, g.frames))) (sym e) (refl, refl, refl)
+pub reads_whole : (r : Reading) (g : Gathered) (there : Result Gathered ℕ) → Stands r g → r.lost ≡ false → there ≡ Ok g → ReadsBatch (Ok (r.gathered.sender, r.gathered.batch, r.gathered.frames)) there
+reads_whole r g there stands not e =
+    let is = sym (stands.whole not) in
+    subst (ReadsBatch (Ok (r.gathered.sender, r.gathered.batch, r.gathered.frames))) (sym e) (ap (λ (h : Gathered). h.sender) is, ap (λ (h : Gathered). h.batch) is, ap (λ (h : Gathered). h.frames) is)
+
+pub reads_lost : (g : Gathered) (there : Result Gathered ℕ) → there ≡ Ok g → IsOk there
+reads_lost g (Ok h) e = refl
+reads_lost g (Err at) e = absurd cc
 
 pub some_left : (n : ℕ) (b : Bool) → b ≡ eqb n 0 → b ≡ false → 0 < n
 some_left zero b e empty = absurd (false≢true (sym empty ∙ e))

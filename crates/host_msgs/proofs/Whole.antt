@@ -10,14 +10,14 @@ use Rattle.fixed_fields.specs.Formats.{◌>>=◌, IsOfWidth, AreWords}
 use Rattle.fixed_fields.proofs.Bytes.{wide8, wide32}
 use Rattle.fixed_fields.proofs.Laws.{number_is, block_is}
 use Rattle.group_quorum.specs.Voters.{is_id}
-use Rattle.svr_base.specs.declared.batch.Batch.{Batch}
-use Rattle.svr_base.specs.declared.batch.Refusal.{Refusal}
-use Rattle.svr_base.specs.declared.entry.Hash.{Hash}
-use Rattle.svr_base.specs.declared.entry.LogEntry.{LogEntry}
-use Rattle.svr_base.specs.declared.entry.Point.{Point}
-use Rattle.svr_base.specs.declared.ids.ClientId.{ClientId}
-use Rattle.svr_base.specs.declared.message.Answer.{Answer}
-use Rattle.svr_base.specs.declared.peer.PeerMsg.{PeerMsg}
+use Rattle.values.specs.declared.batch.Batch.{Batch}
+use Rattle.values.specs.declared.batch.Refusal.{Refusal}
+use Rattle.values.specs.declared.entry.Hash.{Hash}
+use Rattle.values.specs.declared.entry.LogEntry.{LogEntry}
+use Rattle.values.specs.declared.entry.Point.{Point}
+use Rattle.values.specs.declared.ids.ClientId.{ClientId}
+use Rattle.values.specs.declared.message.Answer.{Answer}
+use Rattle.values.specs.declared.peer.PeerMsg.{PeerMsg}
 use Rattle.group_msgs.specs.Canonical.{canonical_peer}
 use Rattle.group_msgs.specs.Peer.{peer_of}
 use Rattle.group_msgs.specs.Ranges.{IsInRange, FitsPeer}

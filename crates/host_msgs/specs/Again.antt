@@ -4,13 +4,13 @@ use Rattle.std.specs.Result.{IsOkAnd}
 use Rattle.std.specs.Int.{w8, w32, w64}
 use Rattle.fixed_fields.specs.Formats.{IsOfWidth, AreWords}
 use Rattle.group_quorum.specs.Voters.{is_id}
-use Rattle.svr_base.specs.declared.batch.Batch.{Batch}
-use Rattle.svr_base.specs.declared.entry.Hash.{Hash}
-use Rattle.svr_base.specs.declared.entry.LogEntry.{LogEntry}
-use Rattle.svr_base.specs.declared.entry.Point.{Point}
-use Rattle.svr_base.specs.declared.ids.ClientId.{ClientId}
-use Rattle.svr_base.specs.declared.message.Answer.{Answer}
-use Rattle.svr_base.specs.declared.peer.PeerMsg.{PeerMsg}
+use Rattle.values.specs.declared.batch.Batch.{Batch}
+use Rattle.values.specs.declared.entry.Hash.{Hash}
+use Rattle.values.specs.declared.entry.LogEntry.{LogEntry}
+use Rattle.values.specs.declared.entry.Point.{Point}
+use Rattle.values.specs.declared.ids.ClientId.{ClientId}
+use Rattle.values.specs.declared.message.Answer.{Answer}
+use Rattle.values.specs.declared.peer.PeerMsg.{PeerMsg}
 use Rattle.group_msgs.specs.Ranges.{FitsPeer}
 use Rattle.host_msgs.specs.declared.gathered.Gathered.{Gathered}
 use Rattle.host_msgs.specs.Items.{is_conf}

@@ -3,7 +3,7 @@ use Rattle.std.specs.Prelude.{ℕ, zero, suc, ◌+◌, ◌-◌, ◌==◌, ◌||�
 use Rattle.std.specs.Int.{w8, w32}
 use Rattle.fixed_fields.specs.Fields.{number_bytes, number_at, block_at}
 use Rattle.fixed_fields.specs.Formats.{◌>>=◌, Field}
-use Rattle.svr_base.specs.declared.batch.Batch.{Batch}
+use Rattle.values.specs.declared.batch.Batch.{Batch}
 use Rattle.host_msgs.specs.declared.gathered.Gathered.{Gathered}
 use Rattle.host_msgs.specs.declared.item.Item.{Item}
 use Rattle.host_msgs.specs.declared.item.Item.TheVariants as item
@@ -26,19 +26,38 @@ may_repeat kind = (kind == 2) || ((kind == 5) || ((kind == 6) || (kind == 7)))
 abbrev pub is_in_place : (last kind : ℕ) → Bool
 is_in_place last kind = nat_lt last kind || ((last == kind) && may_repeat kind)
 
+-- the sender that an item names
+abbrev pub sender_of : Item → Option ℕ
+sender_of (item.Lead term) = None
+sender_of (item.Members index margin voters) = None
+sender_of (item.Halt index kept offered) = None
+sender_of (item.Taken point) = None
+sender_of (item.Commit index entry) = None
+sender_of (item.Answer client number answer) = None
+sender_of (item.Sent from to message frame) = Some from
+sender_of (item.Saved k) = None
+sender_of (item.Refused refusal) = None
+
+-- an item of this kind and this sender may stand here: a message is from the sender of those before it
+abbrev pub passed : Gathered → ℕ → Option ℕ → Option Gathered
+passed g kind None = Some (record g { last = kind })
+passed g kind (Some from) = only_if ((g.sender == 0) || (g.sender == from)) (record g { last = kind; sender = from })
+
+-- what was gathered, with what one item more says
+abbrev pub with_item : Gathered → Item → Gathered
+with_item g (item.Lead term) = record g { batch = record g.batch { lead = Some term } }
+with_item g (item.Members index margin voters) = record g { batch = record g.batch { members = g.batch.members ++ (index, margin, voters) ∷ [] } }
+with_item g (item.Halt index kept offered) = record g { batch = record g.batch { halt = Some (index, kept, offered) } }
+with_item g (item.Taken point) = record g { batch = record g.batch { taken = Some point } }
+with_item g (item.Commit index entry) = record g { batch = record g.batch { commits = g.batch.commits ++ (index, entry) ∷ [] } }
+with_item g (item.Answer client number answer) = record g { batch = record g.batch { answers = g.batch.answers ++ (client, number, answer) ∷ [] } }
+with_item g (item.Sent from to message frame) = record g { batch = record g.batch { sent = g.batch.sent ++ (to, message) ∷ [] }; frames = g.frames ++ frame ∷ [] }
+with_item g (item.Saved k) = record g { batch = record g.batch { saved = Some k } }
+with_item g (item.Refused refusal) = record g { batch = record g.batch { refused = Some refusal } }
+
 -- what was gathered, with one item more
 abbrev pub placed : Gathered → ℕ → Item → Option Gathered
-placed g kind (item.Lead term) = Some (record g { last = kind; batch = record g.batch { lead = Some term } })
-placed g kind (item.Members index margin voters) = Some (record g { last = kind; batch = record g.batch { members = g.batch.members ++ (index, margin, voters) ∷ [] } })
-placed g kind (item.Halt index kept offered) = Some (record g { last = kind; batch = record g.batch { halt = Some (index, kept, offered) } })
-placed g kind (item.Taken point) = Some (record g { last = kind; batch = record g.batch { taken = Some point } })
-placed g kind (item.Commit index entry) = Some (record g { last = kind; batch = record g.batch { commits = g.batch.commits ++ (index, entry) ∷ [] } })
-placed g kind (item.Answer client number answer) = Some (record g { last = kind; batch = record g.batch { answers = g.batch.answers ++ (client, number, answer) ∷ [] } })
-placed g kind (item.Sent from to message frame) =
-    only_if ((g.sender == 0) || (g.sender == from))
-    (record g { last = kind; sender = from; batch = record g.batch { sent = g.batch.sent ++ (to, message) ∷ [] }; frames = g.frames ++ frame ∷ [] })
-placed g kind (item.Saved k) = Some (record g { last = kind; batch = record g.batch { saved = Some k } })
-placed g kind (item.Refused refusal) = Some (record g { last = kind; batch = record g.batch { refused = Some refusal } })
+placed g kind item = passed g kind (sender_of item) >>= λ g'. Some (with_item g' item)
 
 -- the item at the front taken in, and the bytes behind it; nothing where it is not in the grammar
 abbrev pub next_in : Gathered → List ℕ → Option (Gathered × List ℕ)

@@ -3,20 +3,21 @@ use Rattle.std.specs.Prelude.{◌≡◌, ℕ, ◌<◌, ◌≤◌, ◌^◌, true,
 use Rattle.std.specs.Int.{w8, w32, w64}
 use Rattle.fixed_fields.specs.Formats.{IsOfWidth, AreWords, AreFewWords}
 use Rattle.group_quorum.specs.Voters.{is_id}
-use Rattle.svr_base.specs.declared.limits.TheConstants.{TOP}
-use Rattle.svr_base.specs.declared.batch.Refusal.{Refusal}
-use Rattle.svr_base.specs.declared.batch.Refusal.TheVariants as refusal
-use Rattle.svr_base.specs.declared.entry.Body.{Body}
-use Rattle.svr_base.specs.declared.entry.Body.TheVariants as body
-use Rattle.svr_base.specs.declared.entry.Hash.{Hash}
-use Rattle.svr_base.specs.declared.entry.LogEntry.{LogEntry}
-use Rattle.svr_base.specs.declared.entry.Point.{Point}
-use Rattle.svr_base.specs.declared.ids.ClientId.{ClientId}
-use Rattle.svr_base.specs.declared.message.Answer.{Answer}
-use Rattle.svr_base.specs.declared.message.Answer.TheVariants as answer
-use Rattle.svr_base.specs.declared.message.Reply.{Reply}
-use Rattle.svr_base.specs.declared.message.Reply.TheVariants as reply
-use Rattle.svr_base.specs.declared.peer.PeerMsg.{PeerMsg}
+use Rattle.values.specs.declared.limits.TheConstants.{TOP}
+use Rattle.group_quorum.specs.declared.TheConstants.{MAX_ID, MAX_MARGIN}
+use Rattle.values.specs.declared.batch.Refusal.{Refusal}
+use Rattle.values.specs.declared.batch.Refusal.TheVariants as refusal
+use Rattle.values.specs.declared.entry.Body.{Body}
+use Rattle.values.specs.declared.entry.Body.TheVariants as body
+use Rattle.values.specs.declared.entry.Hash.{Hash}
+use Rattle.values.specs.declared.entry.LogEntry.{LogEntry}
+use Rattle.values.specs.declared.entry.Point.{Point}
+use Rattle.values.specs.declared.ids.ClientId.{ClientId}
+use Rattle.values.specs.declared.message.Answer.{Answer}
+use Rattle.values.specs.declared.message.Answer.TheVariants as answer
+use Rattle.values.specs.declared.message.Reply.{Reply}
+use Rattle.values.specs.declared.message.Reply.TheVariants as reply
+use Rattle.values.specs.declared.peer.PeerMsg.{PeerMsg}
 use Rattle.client_msgs.specs.Sizes.{FitsResponse}
 use Rattle.group_msgs.specs.Canonical.{canonical_peer}
 use Rattle.attested_link.specs.Frames.{frame_bytes}
@@ -49,7 +50,7 @@ IsReply (reply.TableFull rows) = IsOfWidth w32 rows
 
 abbrev pub IsAnswer : Answer → Type 0
 IsAnswer (answer.Outcome index reply) = IsIndex index × IsReply reply
-IsAnswer (answer.NotLeader id) = id ≤ 65535
+IsAnswer (answer.NotLeader id) = id ≤ MAX_ID
 IsAnswer (answer.Busy count) = IsOfWidth w64 count
 IsAnswer (answer.Undecided at kept offered) = IsIndex at × (IsHash kept × IsHash offered)
 IsAnswer (answer.Malformed offset) = IsOfWidth w64 offset
@@ -69,7 +70,7 @@ IsRefusal (refusal.LogFull last) = IsIndex last
 IsRefusal (refusal.NoState k) = k < 2 ^ 32
 IsRefusal (refusal.NotForMe to) = to < 2 ^ 32
 IsRefusal (refusal.BadPeer offset) = IsOfWidth w64 offset
-IsRefusal (refusal.SameMargin margin) = margin ≤ 15
+IsRefusal (refusal.SameMargin margin) = margin ≤ MAX_MARGIN
 
 -- each item of the grammar is read again from the content that is written of it
 pub record ItemsAreReadAgain : Type 0 where

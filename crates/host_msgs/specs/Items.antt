@@ -3,18 +3,19 @@ use Rattle.std.specs.Prelude.{ℕ, Bool, true, ◌==◌, ◌&&◌, nat_le, nat_l
 use Rattle.std.specs.Int.{w8, w32, w64}
 use Rattle.fixed_fields.specs.Formats.{◌>>=◌, Content, number, block, nothing, rest, alone, before, numbers, counted}
 use Rattle.group_quorum.specs.Voters.{is_id, fault_of}
-use Rattle.svr_base.specs.declared.limits.TheConstants.{TOP}
+use Rattle.values.specs.declared.limits.TheConstants.{TOP}
+use Rattle.group_quorum.specs.declared.TheConstants.{MAX_ID}
 use Rattle.attested_link.specs.Frames.{link_frame}
-use Rattle.svr_base.specs.declared.batch.Refusal.{Refusal}
-use Rattle.svr_base.specs.declared.entry.Body.{Body}
-use Rattle.svr_base.specs.declared.entry.Body.TheVariants as body
-use Rattle.svr_base.specs.declared.entry.Hash.{Hash}
-use Rattle.svr_base.specs.declared.message.Answer.{Answer}
-use Rattle.svr_base.specs.declared.message.Answer.TheVariants as answer
-use Rattle.svr_base.specs.declared.message.Part.{Part}
-use Rattle.svr_base.specs.declared.message.Part.TheVariants as part
-use Rattle.svr_base.specs.declared.message.Reply.{Reply}
-use Rattle.svr_base.specs.declared.message.Reply.TheVariants as reply
+use Rattle.values.specs.declared.batch.Refusal.{Refusal}
+use Rattle.values.specs.declared.entry.Body.{Body}
+use Rattle.values.specs.declared.entry.Body.TheVariants as body
+use Rattle.values.specs.declared.entry.Hash.{Hash}
+use Rattle.values.specs.declared.message.Answer.{Answer}
+use Rattle.values.specs.declared.message.Answer.TheVariants as answer
+use Rattle.values.specs.declared.message.Part.{Part}
+use Rattle.values.specs.declared.message.Part.TheVariants as part
+use Rattle.values.specs.declared.message.Reply.{Reply}
+use Rattle.values.specs.declared.message.Reply.TheVariants as reply
 use Rattle.host_msgs.specs.declared.item.Item.{Item}
 use Rattle.host_msgs.specs.declared.item.Item.TheVariants as item
 use Rattle.host_msgs.specs.Refusals.{refusal_of}
@@ -144,7 +145,7 @@ abbrev pub outcome_in : List ℕ → Option Answer
 outcome_in bytes = outcome_fields.read bytes >>= λ p. reply_in p.1.0 p.1.1 >>= λ r. only_if (nat_le p.0 TOP) (answer.Outcome p.0 r)
 
 abbrev pub not_leader_in : List ℕ → Option Answer
-not_leader_in bytes = word_field.read bytes >>= λ id. only_if (nat_le id 65535) (answer.NotLeader id)
+not_leader_in bytes = word_field.read bytes >>= λ id. only_if (nat_le id MAX_ID) (answer.NotLeader id)
 
 abbrev pub undecided_in : List ℕ → Option Answer
 undecided_in bytes = halt_fields.read bytes >>= λ p. only_if (nat_le p.0 TOP) (answer.Undecided p.0 (hash_of p.1.0) (hash_of p.1.1))

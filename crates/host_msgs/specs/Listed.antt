@@ -2,7 +2,7 @@
 use Rattle.std.specs.Prelude.{◌≡◌, ℕ, true, List, [], ◌∷◌, Option, Some}
 use Rattle.std.specs.List.{flat_map}
 use Rattle.fixed_fields.specs.Formats.{◌>>=◌}
-use Rattle.svr_base.specs.declared.batch.Batch.{Batch}
+use Rattle.values.specs.declared.batch.Batch.{Batch}
 use Rattle.host_msgs.specs.declared.gathered.Gathered.{Gathered}
 use Rattle.host_msgs.specs.declared.item.Item.{Item}
 use Rattle.host_msgs.specs.Items.{item_in}

@@ -1,12 +1,12 @@
 -- What a batch needs to be written.
 use Rattle.std.specs.Prelude.{ℕ, ◌<◌, ◌^◌, List, length, All}
-use Rattle.svr_base.specs.declared.batch.Batch.{Batch}
-use Rattle.svr_base.specs.declared.entry.Body.{Body}
-use Rattle.svr_base.specs.declared.entry.Body.TheVariants as body
-use Rattle.svr_base.specs.declared.entry.LogEntry.{LogEntry}
-use Rattle.svr_base.specs.declared.peer.PeerMsg.{PeerMsg}
-use Rattle.svr_base.specs.declared.message.Answer.{Answer}
-use Rattle.svr_base.specs.declared.ids.ClientId.{ClientId}
+use Rattle.values.specs.declared.batch.Batch.{Batch}
+use Rattle.values.specs.declared.entry.Body.{Body}
+use Rattle.values.specs.declared.entry.Body.TheVariants as body
+use Rattle.values.specs.declared.entry.LogEntry.{LogEntry}
+use Rattle.values.specs.declared.peer.PeerMsg.{PeerMsg}
+use Rattle.values.specs.declared.message.Answer.{Answer}
+use Rattle.values.specs.declared.ids.ClientId.{ClientId}
 use Rattle.group_msgs.specs.Ranges.{IsInRange}
 use Rattle.host_msgs.specs.Contents.{members_content, commit_content, answer_content, sent_content}
 

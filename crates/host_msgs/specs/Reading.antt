@@ -1,7 +1,8 @@
 -- What readers answer that may want memory.
-use Rattle.std.specs.Prelude.{◌≡◌, Option, Result, IfOk}
-use Rattle.svr_base.specs.declared.memory.Memory.{Memory}
+use Rattle.std.specs.Prelude.{◌≡◌, Option, Result, Ok, Err, IsSome}
+use Rattle.values.specs.declared.memory.Memory.{Memory}
 
--- what was read is what stands there
+-- What was read is what stands there. Want of memory hides a value only.
 abbrev pub Finds : {X : Type 0} → Result (Option X) Memory → Option X → Type 0
-Finds result there = IfOk result (λ found. there ≡ found)
+Finds (Ok found) there = there ≡ found
+Finds (Err memory) there = IsSome there

@@ -1,8 +1,9 @@
 -- The refusals by their codes and numbers.
 use Rattle.std.specs.Prelude.{ℕ, ◌^◌, ◌==◌, ◌||◌, ◌&&◌, not, nat_le, nat_lt, Option, Some, None, if◌then◌else◌}
-use Rattle.svr_base.specs.declared.batch.Refusal.{Refusal}
-use Rattle.svr_base.specs.declared.batch.Refusal.TheVariants.{NotLeader, ChangePending, AlreadyVoter, NotVoter, TooFew, TooMany, NotCaughtUp, NoLink, LogFull, NoState, NotForMe, BadPeer, SameMargin}
-use Rattle.svr_base.specs.declared.limits.TheConstants.{TOP}
+use Rattle.values.specs.declared.batch.Refusal.{Refusal}
+use Rattle.values.specs.declared.batch.Refusal.TheVariants.{NotLeader, ChangePending, AlreadyVoter, NotVoter, TooFew, TooMany, NotCaughtUp, NoLink, LogFull, NoState, NotForMe, BadPeer, SameMargin}
+use Rattle.values.specs.declared.limits.TheConstants.{TOP}
+use Rattle.group_quorum.specs.declared.TheConstants.{MAX_MARGIN}
 
 -- the code of a refusal and its two numbers, 0 where it has fewer
 abbrev pub refusal_numbers : Refusal → ℕ × (ℕ × ℕ)
@@ -43,7 +44,7 @@ abbrev pub one_number : (code number : ℕ) → Option Refusal
 one_number code n =
     if code == 9 then (if nat_le n TOP then Some (LogFull n) else None)
     else if code == 12 then Some (BadPeer n)
-    else if code == 13 then (if nat_le n 15 then Some (SameMargin n) else None)
+    else if code == 13 then (if nat_le n MAX_MARGIN then Some (SameMargin n) else None)
     else if nat_lt n (2 ^ 32) then small_refusal code n
     else None
 

@@ -1,7 +1,7 @@
 -- What the items of a batch hold in the bytes of other formats.
 use Rattle.std.specs.Prelude.{ℕ, Bool, List, Option, Some, None, Result, Ok, Err}
-use Rattle.svr_base.specs.declared.message.Response.{Response}
-use Rattle.svr_base.specs.declared.peer.PeerMsg.{PeerMsg}
+use Rattle.values.specs.declared.message.Response.{Response}
+use Rattle.values.specs.declared.peer.PeerMsg.{PeerMsg}
 use Rattle.client_msgs.specs.Reading.{response_of}
 use Rattle.client_msgs.specs.Strict.{is_canonical}
 use Rattle.group_msgs.specs.Peer.{peer_of}

@@ -11,7 +11,7 @@ use client_msgs::{ResponseFault, read_response};
 use fixed_fields::{array_at, end, u8_at, u32_at, u64_at};
 use group_quorum::MAX_ID;
 use std::alloc::Global;
-use svr_base::{Answer, ClientId, Hash, Memory, Part, Reply, Response, TOP};
+use values::{Answer, ClientId, Hash, Memory, Part, Reply, Response, TOP};
 
 pub fn answer(alloc: Global, content: &[u8]) -> Result<Option<Item>, Memory>
     ensures { Finds result (answer_in content.now) }
@@ -61,13 +61,13 @@ fn outcome(alloc: Global, bytes: &[u8]) -> Result<Option<Answer>, Memory>
     let Some((index, kind, rest)) = outcome_fields(bytes) else {
         return Ok(None);
     };
-    let Some(reply) = reply(alloc, kind, rest)? else {
-        return Ok(None);
-    };
     if index > TOP {
         return Ok(None);
     }
-    Ok(Some(Answer::Outcome(index, reply)))
+    match reply(alloc, kind, rest)? {
+        Some(reply) => Ok(Some(Answer::Outcome(index, reply))),
+        None => Ok(None),
+    }
 }
 
 /// Index, kind and content.

@@ -11,7 +11,7 @@ use crate::voters::voters;
 use client_msgs::is_canonical_request;
 use fixed_fields::{ShortList, array_at, counted_u32s, end, u8_at, u64_at};
 use std::alloc::Global;
-use svr_base::{Body, Bytes, ClientId, LogEntry, Memory, TOP};
+use values::{Body, Bytes, ClientId, LogEntry, Memory, TOP};
 
 pub fn commit(alloc: Global, content: &[u8]) -> Result<Option<Item>, Memory>
     ensures { Finds result (commit_in content.now) }
@@ -19,13 +19,13 @@ pub fn commit(alloc: Global, content: &[u8]) -> Result<Option<Item>, Memory>
     let Some((index, term, kind, body)) = fields(content) else {
         return Ok(None);
     };
-    let Some(body) = entry_body(alloc, kind, body)? else {
-        return Ok(None);
-    };
     if index > TOP || term > TOP {
         return Ok(None);
     }
-    Ok(Some(Item::Commit(index, LogEntry { term, body })))
+    match entry_body(alloc, kind, body)? {
+        Some(body) => Ok(Some(Item::Commit(index, LogEntry { term, body }))),
+        None => Ok(None),
+    }
 }
 
 /// Index, term, kind and body.

@@ -7,7 +7,7 @@ ghost use Rattle.host_msgs.specs.Batches.{item_bytes};
 
 use fixed_fields::Writer;
 use std::alloc::Global;
-use svr_base::Memory;
+use values::Memory;
 
 /// What the content of an item is written of.
 pub trait Content {

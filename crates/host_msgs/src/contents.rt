@@ -15,7 +15,7 @@ use client_msgs::write_response;
 use fixed_fields::Writer;
 use group_msgs::write_peer;
 use std::alloc::{AllocError, Global};
-use svr_base::{
+use values::{
     Answer, Body, ClientId, Hash, Ids, LogEntry, Memory, Part, PeerMsg, Point, Refusal, ReplicaId,
     Reply,
 };

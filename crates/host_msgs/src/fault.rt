@@ -3,7 +3,7 @@
 ghost use Rattle.std.specs.Prelude.{◌≡◌};
 ghost use Rattle.host_msgs.specs.declared.fault.BatchFault.TheVariants as faults;
 
-use svr_base::{Bytes, Items, Memory};
+use values::{Bytes, Items, Memory};
 
 /// Frames as bytes, in the order of a batch.
 pub type FrameList = Items<Bytes>;

@@ -1,12 +1,12 @@
 //! The items that were read so far.
 
-ghost use Rattle.std.specs.Prelude.{◌≡◌};
+ghost use Rattle.std.specs.Prelude.{◌≡◌, OnOk};
 ghost use Rattle.host_msgs.specs.Batches.{is_in_place, may_repeat};
 
 use crate::fault::FrameList;
 use crate::item::Item;
 use std::alloc::Global;
-use svr_base::{Batch, Items, Memory, ReplicaId};
+use values::{Batch, Items, Memory, ReplicaId};
 
 /// A batch as far as it was read.
 #[derive(Drop)]
@@ -20,8 +20,8 @@ pub struct Gathered {
 }
 
 impl Gathered {
-    ghost use Rattle.host_msgs.specs.Batches.{none_yet, placed};
-    ghost use Rattle.host_msgs.specs.Walking.{Places};
+    ghost use Rattle.host_msgs.specs.Batches.{none_yet, passed, with_item, placed};
+    ghost use Rattle.host_msgs.specs.Walking.{AreAlike, Passes, Places};
 
     /// Nothing was read yet.
     pub fn new(alloc: Global) -> Gathered
@@ -45,59 +45,58 @@ impl Gathered {
         }
     }
 
-    /// Takes in an item of this kind, and answers whether it may: a message is from the sender of those before it.
+    /// Takes in an item of this kind, and answers whether it may stand here: a message is from the sender of those before
+    /// it. Want of memory leaves out what it says, and not its kind and its sender.
     pub fn place(&mut self, kind: u8, item: Item) -> Result<bool, Memory>
-        ensures { Places result self.old self.new (placed self.old kind item) }
+        ensures { Places result self.new (placed self.old kind item) }
     {
+        if !self.pass(kind, item.sender()) {
+            return Ok(false);
+        }
+        self.keep(item)?;
+        Ok(true)
+    }
+
+    /// Goes past an item of this kind, which names this sender, and answers whether it may stand here.
+    pub fn pass(&mut self, kind: u8, sender: Option<ReplicaId>) -> bool
+        ensures { Passes result self.new (passed self.old kind sender) }
+    {
+        if let Some(from) = sender {
+            if self.sender != 0 && self.sender != from {
+                return false;
+            }
+            self.sender = from;
+        }
         self.last = kind;
+        true
+    }
+
+    /// Puts what an item says into the batch.
+    fn keep(&mut self, item: Item) -> Result<(), Memory>
+        ensures kept { OnOk result (self.new ≡ with_item self.old item) }
+        ensures marks { AreAlike self.new self.old }
+    {
+        let batch = &mut self.batch;
         match item {
-            Item::Lead(term) => {
-                self.batch.lead = Some(term);
-                Ok(true)
-            }
-            Item::Members(index, margin, voters) => {
-                self.batch.members.push((index, margin, voters))?;
-                Ok(true)
-            }
-            Item::Halt(index, kept, offered) => {
-                self.batch.halt = Some((index, kept, offered));
-                Ok(true)
-            }
-            Item::Taken(point) => {
-                self.batch.taken = Some(point);
-                Ok(true)
-            }
-            Item::Commit(index, entry) => {
-                self.batch.commits.push((index, entry))?;
-                Ok(true)
-            }
-            Item::Answer(client, number, answer) => {
-                self.batch.answers.push((client, number, answer))?;
-                Ok(true)
-            }
+            Item::Lead(term) => batch.lead = Some(term),
+            Item::Members(index, margin, voters) => batch.members.push((index, margin, voters))?,
+            Item::Halt(index, kept, offered) => batch.halt = Some((index, kept, offered)),
+            Item::Taken(point) => batch.taken = Some(point),
+            Item::Commit(index, entry) => batch.commits.push((index, entry))?,
+            Item::Answer(client, number, answer) => batch.answers.push((client, number, answer))?,
             Item::Sent {
-                from,
                 to,
                 message,
                 frame,
+                ..
             } => {
-                if self.sender != 0 && self.sender != from {
-                    return Ok(false);
-                }
-                self.sender = from;
-                self.batch.sent.push((to, message))?;
+                batch.sent.push((to, message))?;
                 self.frames.push(frame)?;
-                Ok(true)
             }
-            Item::Saved(k) => {
-                self.batch.saved = Some(k);
-                Ok(true)
-            }
-            Item::Refused(refusal) => {
-                self.batch.refused = Some(refusal);
-                Ok(true)
-            }
+            Item::Saved(k) => batch.saved = Some(k),
+            Item::Refused(refusal) => batch.refused = Some(refusal),
         }
+        Ok(())
     }
 }
 

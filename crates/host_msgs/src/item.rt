@@ -1,5 +1,7 @@
 //! One item of a batch.
 
+ghost use Rattle.std.specs.Prelude.{◌≡◌};
+ghost use Rattle.host_msgs.specs.Batches.{sender_of};
 ghost use Rattle.host_msgs.specs.Items.{item_in};
 ghost use Rattle.host_msgs.specs.Reading.{Finds};
 
@@ -10,7 +12,7 @@ use crate::refusal::refused;
 use crate::sent::sent;
 use crate::voters::members;
 use std::alloc::Global;
-use svr_base::{
+use values::{
     Answer, Bytes, ClientId, Hash, Ids, LogEntry, Memory, PeerMsg, Point, Refusal, ReplicaId,
 };
 
@@ -32,6 +34,18 @@ pub enum Item {
     },
     Saved(u32),
     Refused(Refusal),
+}
+
+impl Item {
+    /// The sender that the item names.
+    pub fn sender(&self) -> Option<ReplicaId>
+        ensures { result ≡ sender_of self.now }
+    {
+        match self {
+            Item::Sent { from, .. } => Some(*from),
+            _ => None,
+        }
+    }
 }
 
 /// The item that a content of this kind says, if it says one.

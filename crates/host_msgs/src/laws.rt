@@ -1,7 +1,7 @@
 //! What is written is read again.
 
 ghost use Rattle.std.specs.Prelude.{ℕ};
-ghost use Rattle.svr_base.specs.declared.batch.Batch.{Batch};
+ghost use Rattle.values.specs.declared.batch.Batch.{Batch};
 ghost use Rattle.host_msgs.specs.Again.{IsInGrammar, IsReadAgain};
 ghost use Rattle.host_msgs.specs.Batches.{batch_in};
 ghost use Rattle.host_msgs.specs.Contents.{batch_bytes};

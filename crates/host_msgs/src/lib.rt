@@ -32,7 +32,7 @@ mod voters;
 mod write;
 
 pub use fault::{BatchFault, FrameList};
-pub use host_frames::{HostFault, HostIn, read_host, write_host};
+pub use host_inputs::{HostFault, HostIn, read_host, write_host};
 pub use laws::{batches_are_read_again, items_are_read_again};
 pub use read::read_batch;
 pub use write::write_batch;

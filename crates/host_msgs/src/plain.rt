@@ -5,7 +5,7 @@ ghost use Rattle.host_msgs.specs.Items.{lead_in, halt_in, taken_in, saved_in};
 
 use crate::item::Item;
 use fixed_fields::{array_at, end, u32_at, u64_at};
-use svr_base::{Hash, Point, TOP};
+use values::{Hash, Point, TOP};
 
 pub fn lead(content: &[u8]) -> Option<Item>
     ensures { result ≡ lead_in content.now }

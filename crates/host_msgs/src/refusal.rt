@@ -6,7 +6,8 @@ ghost use Rattle.host_msgs.specs.Items.{refused_in};
 
 use crate::item::Item;
 use fixed_fields::{end, u8_at, u64_at};
-use svr_base::{Refusal, TOP};
+use group_quorum::MAX_MARGIN;
+use values::{Refusal, TOP};
 
 pub fn refused(content: &[u8]) -> Option<Item>
     ensures { result ≡ refused_in content.now }
@@ -50,7 +51,7 @@ fn one_number(code: u8, number: u64) -> Option<Refusal>
     match code {
         9 if number <= TOP => Some(Refusal::LogFull(number)),
         12 => Some(Refusal::BadPeer(number)),
-        13 if number <= 15 => Some(Refusal::SameMargin(number as u8)),
+        13 if number <= u64::from(MAX_MARGIN) => Some(Refusal::SameMargin(number as u8)),
         _ if number <= u64::from(u32::MAX) => small_refusal(code, number as u32),
         _ => None,
     }

@@ -13,7 +13,7 @@ use fixed_fields::u32_at;
 use group_msgs::{PeerFault, read_peer};
 use group_quorum::MAX_ID;
 use std::alloc::Global;
-use svr_base::{Bytes, Memory, PeerMsg, ReplicaId};
+use values::{Bytes, Memory, PeerMsg, ReplicaId};
 
 pub fn sent(alloc: Global, frame: &[u8]) -> Result<Option<Item>, Memory>
     ensures { Finds result (sent_in frame.now) }

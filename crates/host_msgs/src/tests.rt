@@ -4,7 +4,7 @@ ghost use Rattle.host_msgs.specs.Batches.{none_yet};
 use crate::{BatchFault, read_batch, write_batch};
 use std::alloc::{AllocError, Global};
 use std::test::Fail;
-use svr_base::{
+use values::{
     Answer, AnswerList, Batch, Body, Bytes, ClientId, CommitList, Hash, Ids, Items, LogEntry,
     Memory, Part, PeerMsg, Point, Refusal, Reply, Response,
 };

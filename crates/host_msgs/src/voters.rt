@@ -9,7 +9,7 @@ use crate::item::Item;
 use fixed_fields::{short_u32s, u8_at, u64_at};
 use group_quorum::Config;
 use std::alloc::Global;
-use svr_base::{Ids, Memory, TOP};
+use values::{Ids, Memory, TOP};
 
 pub fn members(alloc: Global, content: &[u8]) -> Result<Option<Item>, Memory>
     ensures { Finds result (members_in content.now) }
@@ -43,7 +43,7 @@ pub fn voters(alloc: Global, margin: u8, ids: &[u32]) -> Result<Option<Ids>, Mem
     ensures { Finds result (only_if (is_conf margin ids.now) ids.now) }
 {
     match Config::new(ids, margin) {
-        Ok(_) => Ids::from_slice(alloc, ids),
-        Err(_) => Ok(None),
+        Ok(config) if config.voters() == ids => Ids::from_slice(alloc, ids),
+        _ => Ok(None),
     }
 }

@@ -11,7 +11,7 @@ use crate::contents::Frame;
 use fixed_fields::Writer;
 use std::alloc::Global;
 use std::mem;
-use svr_base::{Batch, Memory, PeerMsg, ReplicaId};
+use values::{Batch, Memory, PeerMsg, ReplicaId};
 
 /// Appends the items of a batch that this replica leaves. After `Memory` the bytes are as before.
 pub fn write_batch(

@@ -5,7 +5,7 @@ use Rattle.std.proofs.lemmas.Bool.Decides.{eqb_tells}
 use Rattle.hex.specs.Hex.{decode_of, decode_pairs}
 use Rattle.hex.specs.declared.error.FromHexError.{FromHexError}
 use Rattle.hex.proofs.HexLemmas.{decode_of-even, decode_of-ok}
-use Rattle.svr_base.specs.declared.event.Cause.TheVariants.{Hex}
+use Rattle.values.specs.declared.event.Cause.TheVariants.{Hex}
 use Rattle.schedule_model.specs.Reading.{fault}
 use Rattle.schedule_text.specs.Read.{client_from}
 

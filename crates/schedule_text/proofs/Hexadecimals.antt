@@ -1,15 +1,16 @@
 -- Digits that are read whatever they are.
 use Rattle.std.proofs.Common.{arith, refl, sym, ap, subst, ◌∙◌, ◌≡◌, ◌≢◌, ◌+◌, ◌-◌, ◌*◌, ◌%◌, ◌<◌, ◌≤◌, inl, inr, ℕ, zero, suc, add-one, Bool, true, false, ◌&&◌, List, [], ◌∷◌, length, min, take, drop, get_or, slice_index, slice_set, Option, Some, None, unwrap_or, Result, Ok, Err, get_or-set_same, get_or-set_other}
-use Rattle.std.specs.Prelude.{IsErr, nat_lt}
+use Rattle.std.specs.Prelude.{IsOk, IsErr, nat_lt, is_some}
+use Rattle.std.specs.List.{list_all}
 use Rattle.std.specs.Simd.Lanes.{chunk, put_chunk}
 use Rattle.std.proofs.lemmas.List.Sums.{AllPass-from_list_all, list_all-from_AllPass}
-use Rattle.std.proofs.lemmas.Bool.{and_parts, cases_lt, lt-ltb, ltb-true}
+use Rattle.std.proofs.lemmas.Bool.{and_parts, cases_Bool, cases_lt, lt-ltb, ltb-true}
 use Rattle.std.proofs.lemmas.Bool.Decides.{nat_tests}
 use Rattle.std.proofs.lemmas.List.{get_or-map, get_or_default, length-map, set-get_or}
 use Rattle.std.proofs.lemmas.Simd.{get_or-chunk, get_or-put_chunk_at, length-chunk}
-use Rattle.hex.specs.Hex.{decode_pairs, digit_or_error, hex_digit_value, is_hex_digit, pair_value, ◌>>=◌}
+use Rattle.hex.specs.Hex.{decode_of, decode_pairs, digit_or_error, hex_digit_value, is_hex_digit, pair_value, ◌>>=◌}
 use Rattle.hex.specs.declared.error.FromHexError.{FromHexError}
-use Rattle.hex.proofs.HexLemmas.{decode_pairs-ok}
+use Rattle.hex.proofs.HexLemmas.{decode_of-digits, decode_of-even, decode_pairs-ok}
 use Rattle.hex.proofs.Pairs.{decode_done, decode_start, decode_step, prepend}
 use Rattle.schedule_text.specs.Decoded.{AreRead, Decodes, IsKept, IsRead}
 use Rattle.schedule_text.specs.Values.{ValuesOf, all_small, bytes_of, digit_or_16}
@@ -52,6 +53,26 @@ err_unless (Err e) never = refl
 
 pub no_digit : (text : List ℕ) (k : ℕ) → k < length text → 16 ≤ digit_or_16 (slice_index text k) → IsErr (decode_pairs 0 text)
 no_digit text k within large = err_unless (decode_pairs 0 text) (λ bytes is. let small = digits_of_ok text bytes is k within in omega (arith, small, large))
+
+-- a text is hexadecimal where all its bytes are digits
+some_small : (x : Option ℕ) → unwrap_or x 16 < 16 → is_some x ≡ true
+some_small (Some v) small = refl
+some_small None small = absurd (omega (arith, small))
+
+pub are_hexadecimal : (text : List ℕ) → length text % 2 ≡ 0 → list_all (λ c. nat_lt (digit_or_16 c) 16) text ≡ true → IsOk (decode_of text)
+are_hexadecimal text even all =
+    let digits = λ (k d : ℕ) (within : k < length text). some_small (hex_digit_value (get_or text k d)) (ltb-true _ _ (AllPass-from_list_all (λ c. nat_lt (digit_or_16 c) 16) text all k d within)) in
+    read (decode_of text) (decode_of-digits text even digits).0 (decode_of-digits text even digits).1
+  where
+    read : (r : Result (List ℕ) FromHexError) (bytes : List ℕ) → r ≡ Ok bytes → IsOk r
+    read (Ok x) bytes is = refl
+    read (Err e) bytes is = absurd cc
+
+pub are_not_hexadecimal : (text : List ℕ) → length text % 2 ≡ 0 → list_all (λ c. nat_lt (digit_or_16 c) 16) text ≡ false → IsErr (decode_of text)
+are_not_hexadecimal text even other =
+    err_unless (decode_of text) (λ bytes is.
+    let digits = (decode_pairs-ok 0 text bytes (sym (decode_of-even text even) ∙ is)).0 in
+    cc (sym other ∙ list_all-from_AllPass (λ c. nat_lt (digit_or_16 c) 16) text (λ k d within. lt-ltb _ _ (small_digit (get_or text k d) (digits k d within)))))
 
 -- what is said at the end
 pub decoded : (whole : Bool) (text out : List ℕ) → length text ≡ 2 * length out → (whole ≡ true → AreRead text out 0 (length out))

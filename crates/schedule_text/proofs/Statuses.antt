@@ -2,8 +2,8 @@
 use Rattle.std.proofs.Common.{arith, refl, ◌∙◌, ◌≡◌, ◌≤◌, ◌<◌, ℕ, zero, suc, List, [], ◌∷◌, Option, Some, None, IfSome}
 use Rattle.proto_wire.specs.Varint.{groups}
 use Rattle.proto_wire.proofs.VarintLemmas.{varint_one}
-use Rattle.svr_base.specs.declared.message.Response.{Response}
-use Rattle.svr_base.specs.declared.message.Response.TheVariants.{Backup, Delete, Expose, Restore}
+use Rattle.values.specs.declared.message.Response.{Response}
+use Rattle.values.specs.declared.message.Response.TheVariants.{Backup, Delete, Expose, Restore}
 use Rattle.client_msgs.specs.Canonical.{canonical_response}
 
 backup_status : (status : ℕ) → 1 ≤ status → status < 128 → 10 ∷ 2 ∷ 8 ∷ status ∷ [] ≡ canonical_response (Backup status)

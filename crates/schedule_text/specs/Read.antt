@@ -1,16 +1,16 @@
 -- What is read of a record.
-use Rattle.std.specs.Prelude.{ℕ, ◌≡◌, ◌==◌, if◌then◌else◌, ⊤, List, length, Result, Ok, Err}
+use Rattle.std.specs.Prelude.{ℕ, ◌≡◌, ◌==◌, if◌then◌else◌, List, length, Result, Ok, Err, IsOk}
 use Rattle.hex.specs.Hex.{decode_of}
 use Rattle.schedule_model.specs.Reading.{RecordFault, bytes_or_fault, fault, ◌>>=◌}
-use Rattle.svr_base.specs.declared.event.Cause.TheVariants.{Hex}
-use Rattle.svr_base.specs.declared.ids.ClientId.{ClientId}
+use Rattle.values.specs.declared.event.Cause.TheVariants.{Hex}
+use Rattle.values.specs.declared.ids.ClientId.{ClientId}
 use Rattle.schedule_text.specs.declared.fault.Unread.{Unread}
 use Rattle.schedule_text.specs.declared.fault.Unread.TheVariants as unread
 
--- what is read is what the record says; want of memory is free
+-- What is read is what the record says. Want of memory hides a value only, and no fault.
 abbrev pub Reads : {T : Type 0} → Result T Unread → Result T RecordFault → Type 0
 Reads (Ok value) said = said ≡ Ok value
-Reads (Err unread.Memory) said = ⊤
+Reads (Err unread.Memory) said = IsOk said
 Reads (Err (unread.Fault fault)) said = said ≡ Err fault
 
 -- a text at field k as a client

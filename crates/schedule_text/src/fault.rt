@@ -3,7 +3,7 @@ ghost use Rattle.std.specs.Prelude.{◌≡◌};
 ghost use Rattle.schedule_text.specs.declared.fault.Unread.TheVariants as unread;
 
 use std::marker::Model;
-use svr_base::{Cause, Memory};
+use values::{Cause, Memory};
 
 /// Why a record means nothing, and at which of its fields, from 1; 0 stands for the record as a whole.
 #[derive(Debug, Drop)]

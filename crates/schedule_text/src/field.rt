@@ -7,10 +7,10 @@ ghost use Rattle.schedule_text.specs.Read.{Reads, client_from};
 use crate::fault::{RecordFault, Unread};
 use crate::hexadecimal::{decode, decode_into};
 use std::alloc::AllocError;
-use svr_base::{Bytes, Cause, ClientId};
+use values::{Bytes, Cause, ClientId};
 
 /// A text at field `k` as the bytes of its hexadecimal, in either case. The bytes stand in `bytes`, whose room is
-/// used again.
+/// used again. `Memory` comes for hexadecimal alone.
 pub fn hex_of(mut bytes: Vec<u8>, text: &[u8], k: usize) -> Result<Bytes, Unread>
     ensures { Reads result (spec.bytes_or_fault k (decode_of text.now)) }
 {

@@ -1,9 +1,10 @@
 //! Bytes as hexadecimal, read and written where they are to stay.
-ghost use Rattle.std.specs.Prelude.{◌≡◌, ◌<◌, ◌≤◌, ◌++◌, ◌+◌, ◌*◌, ◌&&◌, true, false, IsErr, IfOk, OnOk, length};
+ghost use Rattle.std.specs.Prelude.{◌≡◌, ◌<◌, ◌≤◌, ◌++◌, ◌+◌, ◌*◌, ◌&&◌, nat_lt, true, false, IsOk, IsErr, IfOk, OnOk, OnErr, length, vec_capacity};
+ghost use Rattle.std.specs.List.{list_all};
 ghost use Rattle.hex.specs.Hex.{decode_of, decode_pairs};
 ghost use Rattle.schedule_model.specs.Lines as spec;
 ghost use Rattle.schedule_text.specs.Decoded.{AreRead, Decodes, IsKept};
-ghost use Rattle.schedule_text.specs.Values.{all_small};
+ghost use Rattle.schedule_text.specs.Values.{all_small, digit_or_16};
 
 use crate::digit::{NO_DIGIT, are_digits, digit_value, digit_values, digits, joined, larger};
 use std::alloc::AllocError;
@@ -62,22 +63,34 @@ pub fn decode_into(text: &[u8], out: &mut [u8]) -> bool
     are_digits(larger(largest, decode_block(text, out, last)))
 }
 
+/// Whether all bytes are digits.
+fn all_digits(text: &[u8]) -> bool
+    ensures { result ≡ list_all (λ byte. nat_lt (digit_or_16 byte) 16) text.now }
+{
+    text.iter().all(|byte| digit_value(*byte) < NO_DIGIT)
+}
+
 /// Reads the bytes of hexadecimal, in either case, into a vector that is used again, and answers whether the
-/// text is hexadecimal.
+/// text is hexadecimal. Room that is not there hides no text that is none.
 pub fn decode(text: &[u8], bytes: &mut Vec<u8>) -> Result<bool, AllocError>
-    ensures { IfOk result (λ whole. Decodes whole bytes.new.items (decode_of text.now)) }
+    ensures ok { IfOk result (λ whole. Decodes whole bytes.new.items (decode_of text.now)) }
+    ensures err { OnErr result (IsOk (decode_of text.now)) }
 {
     if text.len() % 2 != 0 {
         return Ok(false);
     }
-    bytes.resize(text.len() / 2, 0)?;
-    Ok(decode_into(text, bytes.as_mut_slice()))
+    match bytes.resize(text.len() / 2, 0) {
+        Ok(()) => Ok(decode_into(text, bytes.as_mut_slice())),
+        Err(memory) if all_digits(text) => Err(memory),
+        Err(_) => Ok(false),
+    }
 }
 
 /// What `push_digits` does, for fewer bytes than a block has. Zeros fill it up, and their digits are left out.
 fn push_short(line: &mut Vec<u8>, bytes: &[u8]) -> Result<(), AllocError>
     requires { length bytes.now < BLOCK }
-    ensures { OnOk result (line.new.items ≡ line.old.items ++ spec.hex bytes.now) }
+    ensures ok { OnOk result (line.new.items ≡ line.old.items ++ spec.hex bytes.now) }
+    ensures full { OnErr result (vec_capacity line.old < length line.old.items + 2 * length bytes.now) }
 {
     let mut block = [0; BLOCK];
     block[..bytes.len()].copy_from_slice(bytes);
@@ -85,9 +98,10 @@ fn push_short(line: &mut Vec<u8>, bytes: &[u8]) -> Result<(), AllocError>
     line.extend_from_slice(&written.as_array()[..2 * bytes.len()])
 }
 
-/// Appends bytes as lower-case hexadecimal.
+/// Appends bytes as lower-case hexadecimal. After want of memory the line is as before.
 pub fn push_digits(line: &mut Vec<u8>, bytes: &[u8]) -> Result<(), AllocError>
-    ensures { OnOk result (line.new.items ≡ line.old.items ++ spec.hex bytes.now) }
+    ensures ok { OnOk result (line.new.items ≡ line.old.items ++ spec.hex bytes.now) }
+    ensures err { OnErr result (line.new.items ≡ line.old.items) }
 {
     let (blocks, rest) = bytes.as_chunks::<BLOCK>();
     line.reserve(2 * bytes.len())?;

@@ -1,37 +1,46 @@
 //! Lines, which are fields joined by commas and ended by a line feed.
-ghost use Rattle.std.specs.Prelude.{◌≡◌, ◌++◌, OnOk, IfOk, decimal};
+ghost use Rattle.std.specs.Prelude.{◌≡◌, ◌++◌, OnOk, OnErr, IfOk, decimal};
 ghost use Rattle.schedule_model.specs.Lines as spec;
+ghost use Rattle.schedule_model.specs.Quantities.{Events};
 ghost use Rattle.schedule_text.specs.Joined.{after_comma};
 
 use crate::fault::RecordFault;
 use crate::hexadecimal::push_digits;
 use itoa::Buffer;
 use std::alloc::{AllocError, Global};
-use svr_base::{Cause, Part};
+use values::{Cause, Part};
 
-/// Appends the decimal digits of a number.
+/// Appends the decimal digits of a number. After want of memory the line is as before.
 pub fn push_number(line: &mut Vec<u8>, number: u64) -> Result<(), AllocError>
-    ensures { OnOk result (line.new.items ≡ line.old.items ++ decimal number) }
+    ensures ok { OnOk result (line.new.items ≡ line.old.items ++ decimal number) }
+    ensures err { OnErr result (line.new.items ≡ line.old.items) }
 {
     let mut buffer = Buffer::new();
     line.extend_from_slice(buffer.format(number).as_bytes())
 }
 
-/// Appends a comma and a field.
+/// Appends a comma and a field. After want of memory the line is as before.
 pub fn push_field(line: &mut Vec<u8>, field: &[u8]) -> Result<(), AllocError>
-    ensures { OnOk result (line.new.items ≡ line.old.items ++ after_comma field.now) }
+    ensures ok { OnOk result (line.new.items ≡ line.old.items ++ after_comma field.now) }
+    ensures err { OnErr result (line.new.items ≡ line.old.items) }
 {
     line.reserve(1 + field.len())?;
-    line.push(b',')?;
+    line.push_reserved(b',');
     line.extend_from_slice(field)
 }
 
-/// Appends a comma and bytes as lower-case hexadecimal.
+/// Appends a comma and bytes as lower-case hexadecimal. After want of memory the line is as before.
 pub fn push_hex(line: &mut Vec<u8>, bytes: &[u8]) -> Result<(), AllocError>
-    ensures { OnOk result (line.new.items ≡ line.old.items ++ after_comma (spec.hex bytes.now)) }
+    ensures ok { OnOk result (line.new.items ≡ line.old.items ++ after_comma (spec.hex bytes.now)) }
+    ensures err { OnErr result (line.new.items ≡ line.old.items) }
 {
+    let size = line.len();
     line.push(b',')?;
-    push_digits(line, bytes)
+    let pushed = push_digits(line, bytes);
+    if pushed.is_err() {
+        line.truncate(size);
+    }
+    pushed
 }
 
 fn cause_word(cause: Cause) -> &'static str
@@ -78,7 +87,7 @@ pub fn record_line(alloc: Global, number: u64, fault: &RecordFault) -> Result<Ve
 
 /// The last line of a text that ends at the limit of events.
 pub fn limit_line() -> &'static str
-    ensures { result.now ≡ spec.line_text (spec.stopped_at_limit spec.Events) }
+    ensures { result.now ≡ spec.line_text (spec.stopped_at_limit Events) }
 {
     "stopped,limit,events\n"
 }

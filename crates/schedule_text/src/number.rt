@@ -5,7 +5,7 @@ ghost use Rattle.std.specs.Char.{is_ascii_digit};
 ghost use Rattle.schedule_model.specs.Reading as spec;
 
 use crate::fault::RecordFault;
-use svr_base::Cause;
+use values::Cause;
 
 /// As many digits as have a value of 64 bits, whatever they are.
 const SHORT: usize = 19;

@@ -1,12 +1,12 @@
 //! What came of a request, as the fields of a line.
-ghost use Rattle.std.specs.Prelude.{◌≡◌, ◌++◌, ◌∷◌, ◌≤◌, ◌<◌, [], IfSome, OnOk};
+ghost use Rattle.std.specs.Prelude.{◌≡◌, ◌++◌, ◌∷◌, ◌≤◌, ◌<◌, [], length, take, IfSome, OnOk, OnErr};
 ghost use Rattle.client_msgs.specs.Canonical.{canonical_response};
 ghost use Rattle.schedule_model.specs.Lines as spec;
 ghost use Rattle.schedule_text.specs.Joined.{after_comma, after_commas};
 
 use crate::line::{push_hex, push_number};
 use client_msgs::write_response;
-use svr_base::{Memory, Reply, Response};
+use values::{Memory, Reply, Response};
 
 /// A member of this tag with a status of one byte.
 fn status_member(tag: u8, status: u32) -> Option<[u8; 4]>
@@ -42,9 +42,10 @@ fn status_response(response: &Response) -> Option<[u8; 4]>
     }
 }
 
-/// Appends a comma and the canonical bytes of a response as hexadecimal.
+/// Appends a comma and the canonical bytes of a response as hexadecimal. After want of memory the line is as before.
 fn push_response(line: &mut Vec<u8>, response: &Response) -> Result<(), Memory>
-    ensures { OnOk result (line.new.items ≡ line.old.items ++ after_comma (spec.hex (canonical_response response.now))) }
+    ensures ok { OnOk result (line.new.items ≡ line.old.items ++ after_comma (spec.hex (canonical_response response.now))) }
+    ensures err { OnErr result (line.new.items ≡ line.old.items) }
 {
     if let Response::Delete = response {
         push_hex(line, &[26, 0])?;
@@ -59,9 +60,23 @@ fn push_response(line: &mut Vec<u8>, response: &Response) -> Result<(), Memory>
     Ok(())
 }
 
-/// Appends the fields of a reply, each behind a comma.
+/// Appends the fields of a reply, each behind a comma. After want of memory the line is as before.
 pub fn push_reply(line: &mut Vec<u8>, reply: &Reply) -> Result<(), Memory>
-    ensures { OnOk result (line.new.items ≡ line.old.items ++ after_commas (spec.reply_fields reply.now)) }
+    ensures ok { OnOk result (line.new.items ≡ line.old.items ++ after_commas (spec.reply_fields reply.now)) }
+    ensures err { OnErr result (line.new.items ≡ line.old.items) }
+{
+    let size = line.len();
+    let pushed = push_fields(line, reply);
+    if pushed.is_err() {
+        line.truncate(size);
+    }
+    pushed
+}
+
+/// Appends the fields of a reply. Want of memory may leave the first of them behind the line.
+fn push_fields(line: &mut Vec<u8>, reply: &Reply) -> Result<(), Memory>
+    ensures ok { OnOk result (line.new.items ≡ line.old.items ++ after_commas (spec.reply_fields reply.now)) }
+    ensures err { OnErr result (take (length line.old.items) line.new.items ≡ line.old.items) }
 {
     match reply {
         Reply::Applied(response) => {

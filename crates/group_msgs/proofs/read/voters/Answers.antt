@@ -1,6 +1,6 @@
 use Rattle.std.proofs.Common.{Option, None, Some, sym, subst, ◌∙◌, rules}
 use Rattle.std.specs.Option.{IsSome, SomeIff}
-use Rattle.svr_base.specs.Rising.{Rising}
+use Rattle.values.specs.Rising.{Rising}
 use Rattle.group_msgs.specs.Values.{ids_in}
 use Rattle.group_msgs.proofs.VoterLemmas.{rising-from}
 use Rattle.group_msgs.proofs.read.voters.Goals as goal

@@ -7,7 +7,7 @@ use Rattle.proto_wire.specs.Reading.{varint_under, embedded, is_member, run_so_f
 use Rattle.proto_wire.proofs.ReadingLemmas.{u64_of-push}
 use Rattle.client_msgs.proofs.MemberLemmas.{embedded-member}
 use Rattle.group_msgs.specs.Reading.{listed_fault, member_fault, member_of}
-use Rattle.group_msgs.specs.Gathered.{IsRun, Tells}
+use Rattle.group_msgs.specs.Gathered.{IsRun}
 use Rattle.group_msgs.proofs.MemberLemmas.{IsLast-push}
 use Rattle.group_msgs.proofs.gather.Gathered.take.Goals as goal
 
@@ -49,4 +49,4 @@ returns-clause-fault c =
     let inner = sequence_at c.args.field.content_at (drop c.args.field.content_at (take c.args.field.next c.args.bytes.now)) in
     let same : first_fault_in (listed_fault c.begin.new.self.number) inner ≡ member_fault f =
     sym (cond-true (is_member 2 8 f) _ _ is ∙ ap (λ (n : ℕ). first_fault_in (listed_fault n) (embedded f)) (sym c.begin.ensures.number) ∙ ap (first_fault_in (listed_fault c.begin.new.self.number)) e) in
-    IfErr-weaker c.read_on.result _ _ (λ fault told. subst (Tells fault) same told) c.read_on.ensures.fault
+    IfErr-weaker c.read_on.result _ _ (λ fault told. sym same ∙ told) c.read_on.ensures.fault

@@ -1,4 +1,4 @@
-use Rattle.std.proofs.Common.{◌≡◌, ℕ, ◌∷◌, [], ◌++◌, List, Option, Ok, None, refl, sym, subst, append_assoc, arith}
+use Rattle.std.proofs.Common.{◌≡◌, ℕ, ◌∷◌, [], ◌++◌, List, Option, Ok, None, Some, refl, sym, subst, append_assoc, arith}
 use Rattle.std.specs.Prelude.{IfSome}
 use Rattle.std.proofs.lemmas.List.{append-nil}
 use Rattle.std.proofs.lemmas.Result.{err_from_is_err_and}
@@ -6,8 +6,8 @@ use Rattle.proto_wire.specs.declared.field.WireField.{WireField}
 use Rattle.proto_wire.specs.Fields.{Field, field_of}
 use Rattle.proto_wire.specs.Walk.{LeadsOn, IsWithin}
 use Rattle.group_msgs.specs.Reading.{listed_fault}
-use Rattle.group_msgs.specs.Gathered.{IsRun, Tells}
-use Rattle.group_msgs.proofs.Walk.{rest_of, walked-start, walked-field, tells-inside}
+use Rattle.group_msgs.specs.Gathered.{IsRun}
+use Rattle.group_msgs.proofs.Walk.{rest_of, walked-start, walked-field, walked-inside}
 use Rattle.group_msgs.proofs.gather.Member.read_on.Goals as goal
 
 pub loop-field-init : goal.loop-field-init
@@ -25,8 +25,8 @@ returns-in_err-take-clause-fault c =
     let walks = subst (λ (o : Option WireField). LeadsOn (Ok o) c.loop-field.at c.args.bytes.now) c.in-Some.is c.in_ok-field.ensures.walks in
     let f = field_of c.in-Some.field in
     let e = c.in_err-take.field-0.0 in
-    let inside = subst (λ (n : ℕ). Tells e (listed_fault n f)) c.loop-field.invariant.number c.in_err-take.ensures.fault in
-    rw (p.1, p.2) (tells-inside (listed_fault c.args.self.now.number) _ c.args.bytes.now c.args.from c.loop-field.at f (rest_of c.args.bytes.now c.in-Some.field.next) e inside walks c.loop-field.invariant.walked)
+    let inside = subst (λ (n : ℕ). listed_fault n f ≡ Some e) c.loop-field.invariant.number c.in_err-take.ensures.fault in
+    rw (p.1, p.2) (walked-inside (listed_fault c.args.self.now.number) _ c.args.bytes.now c.args.from c.loop-field.at f (rest_of c.args.bytes.now c.in-Some.field.next) e inside walks c.loop-field.invariant.walked)
 
 pub loop-field-preserved : goal.loop-field-preserved
 loop-field-preserved c =

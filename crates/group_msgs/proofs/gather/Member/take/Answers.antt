@@ -7,7 +7,6 @@ use Rattle.proto_wire.specs.Walk.{IsWithin, IsSlice}
 use Rattle.std.specs.Prelude.{ℕ, slice_range}
 use Rattle.group_msgs.specs.Known.{known_of}
 use Rattle.group_msgs.specs.Reading.{is_listed, listed_fault}
-use Rattle.group_msgs.specs.Gathered.{Tells}
 use Rattle.group_msgs.proofs.MemberLemmas.{listed-embedded, IsRun-push}
 use Rattle.group_msgs.proofs.gather.Member.take.Goals as goal
 
@@ -35,4 +34,4 @@ returns-clause-whole c =
 pub returns-clause-fault : goal.returns-clause-fault
 returns-clause-fault c =
     let is : is_listed c.args.self.now.number (field_of c.args.field) ≡ true = search rules in
-    IfErr-weaker c.read.result _ _ (λ fault told. subst (Tells fault) (sym (fault_inside c.args.self.now.number c.args.field c.args.bytes.now is c.requires.within c.requires.slice)) told) c.read.ensures.fault
+    IfErr-weaker c.read.result _ _ (λ fault told. fault_inside c.args.self.now.number c.args.field c.args.bytes.now is c.requires.within c.requires.slice ∙ told) c.read.ensures.fault

@@ -1,7 +1,0 @@
-use Rattle.svr_base.proofs.RisingLists.{rising_from_increasing}
-use Rattle.std.proofs.Common.{subst, sym}
-use Rattle.svr_base.specs.Rising.{Rising}
-use Rattle.host_frames.proofs.lists.set_up.Goals as goal
-
-pub rising_ids-requires : goal.rising_ids-requires
-rising_ids-requires c = subst Rising (sym c.voters.ensures.voters) (rising_from_increasing c.in-Ok.config.voters c.voters.ensures.sound.in_order)
