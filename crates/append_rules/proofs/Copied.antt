@@ -3,7 +3,7 @@ use Rattle.std.proofs.Common.{◌≡◌, ℕ, zero, suc, ◌+◌, ◌-◌, ◌<�
 use Rattle.std.specs.Prelude.{nat_lt, Some, None, slice_get}
 use Rattle.std.proofs.lemmas.Bool.{lt-ltb, cond-true, cases_lt}
 use Rattle.std.proofs.lemmas.List.{take_all, length-drop, length-take}
-use Rattle.svr_base.specs.declared.entry.LogEntry.{LogEntry}
+use Rattle.values.specs.declared.entry.LogEntry.{LogEntry}
 use Rattle.replica_model.specs.Path.{Path}
 use Rattle.replica_log.specs.Window.{Window, base_index, last_index, entry_at}
 use Rattle.append_rules.specs.Sent.{entries_at}

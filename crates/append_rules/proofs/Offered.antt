@@ -1,9 +1,9 @@
 -- What came of an append is what the model says.
 use Rattle.std.proofs.Common.{◌≡◌, ℕ, cond, nat_le, min, max, Option, Some, None, List, [], ◌∷◌, refl, sym, ap, subst, ◌∙◌}
 use Rattle.std.proofs.lemmas.Bool.{lt-leb, le-leb, cond-true, cond-false}
-use Rattle.svr_base.specs.declared.entry.Point.{Point}
-use Rattle.svr_base.specs.declared.peer.PeerMsg.{PeerMsg}
-use Rattle.svr_base.specs.declared.peer.PeerMsg.TheVariants.{Accepted, Rejected}
+use Rattle.values.specs.declared.entry.Point.{Point}
+use Rattle.values.specs.declared.peer.PeerMsg.{PeerMsg}
+use Rattle.values.specs.declared.peer.PeerMsg.TheVariants.{Accepted, Rejected}
 use Rattle.replica_model.specs.Path.{point}
 use Rattle.replica_model.specs.Linked.{sha_link}
 use Rattle.replica_model.specs.Message.{Message, plain}

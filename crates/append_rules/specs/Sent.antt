@@ -1,9 +1,9 @@
 -- The append that a peer is sent.
 use Rattle.std.specs.Prelude.{◌≡◌, ℕ, ◌+◌, ◌-◌, cond, nat_lt, Option, Some, None, length, take, drop}
-use Rattle.svr_base.specs.declared.peer.PeerMsg.{PeerMsg}
-use Rattle.svr_base.specs.declared.peer.PeerMsg.TheVariants.{Append}
+use Rattle.values.specs.declared.peer.PeerMsg.{PeerMsg}
+use Rattle.values.specs.declared.peer.PeerMsg.TheVariants.{Append}
 use Rattle.replica_model.specs.declared.Progress.{Progress}
-use Rattle.svr_base.specs.declared.limits.TheConstants.{MAX_ENTRIES}
+use Rattle.values.specs.declared.limits.TheConstants.{MAX_ENTRIES}
 use Rattle.replica_model.specs.Path.{Path}
 use Rattle.replica_model.specs.Linked.{sha_link}
 use Rattle.replica_model.specs.Replica.{Replica}

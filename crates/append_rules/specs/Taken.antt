@@ -1,8 +1,8 @@
 -- What a follower makes of an append.
 use Rattle.std.specs.Prelude.{◌≡◌, ℕ, cond, nat_le, min, max, Option, Some, None, List, [], ◌∷◌}
-use Rattle.svr_base.specs.declared.entry.Point.{Point}
-use Rattle.svr_base.specs.declared.peer.PeerMsg.{PeerMsg}
-use Rattle.svr_base.specs.declared.peer.PeerMsg.TheVariants.{Accepted, Rejected}
+use Rattle.values.specs.declared.entry.Point.{Point}
+use Rattle.values.specs.declared.peer.PeerMsg.{PeerMsg}
+use Rattle.values.specs.declared.peer.PeerMsg.TheVariants.{Accepted, Rejected}
 use Rattle.replica_model.specs.Path.{Path}
 use Rattle.replica_model.specs.Linked.{sha_link}
 use Rattle.replica_model.specs.Message.{Message, plain}

@@ -9,12 +9,11 @@ ghost use Rattle.append_rules.specs.Replies.{is_sent_anew, next_after, HearsReje
 
 use replica_log::Log;
 use replica_model::Progress;
-use svr_base::Point;
+use values::Point;
 
 /// Hears that a peer has accepted the log up to a point and promised it up to an index. False, and nothing is changed,
 /// exactly where the log does not match the point; else what is known of the peer never falls.
 pub fn take_accepted(log: &Log, progress: &mut Progress, end: Point, promised: u64) -> bool
-    requires last { last_index log.now < u64.MAX }
     ensures answer { result ≡ matches sha_link log.now end }
     ensures after { progress.new ≡ (if result then accepted_upto progress.old end.index promised else progress.old) }
     ensures model { OfEach sha_link log.now (λ s. result ≡ model_matches sha_link s end) }
@@ -32,7 +31,6 @@ pub fn take_accepted(log: &Log, progress: &mut Progress, end: Point, promised: u
 /// sent an append anew. Nothing is changed where the hint is below the base or the entry after it is the peer's next
 /// one already.
 pub fn take_rejected(log: &Log, progress: &mut Progress, hint: u64) -> bool
-    requires last { last_index log.now < u64.MAX }
     ensures answer { result ≡ is_sent_anew log.now progress.old hint }
     ensures after { progress.new ≡ (if result then record (progress.old) { next = next_after log.now hint } else progress.old) }
     ensures model { OfEach sha_link log.now (λ s. HearsRejected s progress.old hint result progress.new) }

@@ -8,7 +8,7 @@ ghost use Rattle.append_rules.specs.Sent.{entries_at, append_of, after_append, M
 use replica_log::Log;
 use replica_model::{MAX_ENTRIES, Progress};
 use std::alloc::Global;
-use svr_base::{Entries, LogEntry, Memory, PeerMsg, Point, TryCopy};
+use values::{Entries, LogEntry, Memory, PeerMsg, Point, TryCopy};
 
 /// The append of a leader in its term to a peer: the entries from the peer's next one on, [`MAX_ENTRIES`] at most, after
 /// the point before them. The peer's next entry then is the one after the last of them. `None` exactly where the hash
@@ -20,7 +20,6 @@ pub fn make_append(
     term: u64,
 ) -> Result<Option<PeerMsg>, Memory>
     requires next { (1 ≤ progress.old.next) × (progress.old.next ≤ last_index log.now + 1) }
-    requires last { last_index log.now < u64.MAX }
     ensures append { IfOk result (λ append. append ≡ append_of log.now progress.old term) }
     ensures after { IfOk result (λ append. progress.new ≡ after_append log.now progress.old) }
     ensures err { OnErr result (progress.new ≡ progress.old) }
@@ -49,7 +48,6 @@ pub fn make_append(
 fn entries_from(alloc: Global, log: &Log, next: u64) -> Result<Entries, Memory>
     requires base { base_index log.now < next }
     requires next { next ≤ last_index log.now + 1 }
-    requires last { last_index log.now < u64.MAX }
     ensures { IfOk result (λ entries. entries ≡ entries_at log.now next) }
 {
     let end = next.saturating_add(MAX_ENTRIES).min(log.last().index + 1);

@@ -1,7 +1,7 @@
 //! What a follower makes of an append.
 ghost use Rattle.std.specs.Prelude.{◌≡◌, ◌≤◌, ◌+◌, IfOk, OnErr, length};
 ghost use Rattle.std.specs.List.{AllByRecursion};
-ghost use Rattle.svr_base.specs.declared.limits.TheConstants.{TOP};
+ghost use Rattle.values.specs.declared.limits.TheConstants.{TOP};
 ghost use Rattle.replica_model.specs.Linked.{sha_link};
 ghost use Rattle.replica_model.specs.Graft.{Offer};
 ghost use Rattle.replica_log.specs.Window.{Fits};
@@ -9,7 +9,7 @@ ghost use Rattle.replica_log.specs.Models.{OfEach};
 ghost use Rattle.append_rules.specs.Taken.{took_of, after_offer, TakesOffer, HasTerms};
 
 use replica_log::{Graft, Log};
-use svr_base::{Hash, LogEntry, Memory, PeerMsg, Point};
+use values::{Hash, LogEntry, Memory, PeerMsg, Point};
 
 /// What came of an append.
 #[derive(Debug, Drop)]

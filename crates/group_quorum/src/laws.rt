@@ -1,6 +1,6 @@
 //! What quorums share.
 
-ghost use Rattle.group_quorum.specs.Sharing.{QuorumsShare, QuorumsOutlast, CountsOverlap, MoreMeet};
+ghost use Rattle.group_quorum.specs.Sharing.{QuorumsShare, QuorumsOutlast, CountsOverlap, MoreMeet, VotersDecide};
 
 /// The law that any two quorums of one configuration share more than twice its margin of voters. It does nothing.
 pub fn quorums_share()
@@ -21,4 +21,9 @@ pub fn counts_overlap()
 /// The law that a quorum stays one where more voters pass. It does nothing.
 pub fn more_meet()
     ensures { MoreMeet }
+{}
+
+/// The law that a configuration is met or not by what its voters pass alone. It does nothing.
+pub fn voters_decide()
+    ensures { VotersDecide }
 {}

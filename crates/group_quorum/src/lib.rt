@@ -10,11 +10,13 @@ mod marks;
 mod voters;
 
 pub use config::Config;
-pub use laws::{counts_overlap, more_meet, quorums_outlast, quorums_share};
+pub use laws::{counts_overlap, more_meet, quorums_outlast, quorums_share, voters_decide};
 
 /// The greatest number of voters in a configuration.
 pub const MAX_VOTERS: usize = 31;
-/// The greatest id of a voter; the least is 1.
+/// The greatest margin of a configuration.
+pub const MAX_MARGIN: u8 = 15;
+/// The greatest id of a replica; the least is 1.
 pub const MAX_ID: u32 = 65_535;
 
 /// What is wrong with a list of voters: the first of these that holds, in this order.

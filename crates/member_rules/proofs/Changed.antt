@@ -4,8 +4,8 @@ use Rattle.std.specs.Prelude.{◌==◌, min, Result, Ok, Err, Some, None}
 use Rattle.std.proofs.lemmas.Bool.{le-ltb}
 use Rattle.std.proofs.lemmas.List.{length-append}
 use Rattle.std.proofs.lemmas.List.Elements.{recursion_from_All}
-use Rattle.svr_base.specs.Rising.{Rising}
-use Rattle.svr_base.proofs.RisingLists.{rising_from_increasing}
+use Rattle.values.specs.Rising.{Rising}
+use Rattle.values.proofs.RisingLists.{rising_from_increasing}
 use Rattle.group_quorum.specs.Conf.{Conf}
 use Rattle.group_quorum.specs.Voters.{is_in, IsId, IsSound, bad_fault, double_fault, few_fault, conf_or, conf_of, first_bad, first_double, rising}
 use Rattle.group_quorum.specs.declared.ConfigFault.{ConfigFault}
@@ -14,7 +14,7 @@ use Rattle.replica_model.specs.Peers.{others}
 use Rattle.replica_model.specs.Changes.{are_few, with_voter, without_voter}
 use Rattle.member_rules.specs.declared.fault.MemberFault.{MemberFault}
 use Rattle.member_rules.specs.declared.fault.MemberFault.TheVariants.{TooFew as MemberTooFew}
-use Rattle.member_rules.proofs.RisingIds.{AreIds, each_pushed, each_filtered, rising_filtered, no_bad, no_double, none_seen, no_double_pushed, rising_same, rising_pushed, one_less}
+use Rattle.replica_model.proofs.RisingIds.{AreIds, each_pushed, each_filtered, rising_filtered, no_bad, no_double, none_seen, no_double_pushed, rising_same, rising_pushed, one_less}
 
 -- ids with no bad one and no double, and not too many
 of_good : (margin : ℕ) (ids : List ℕ) → length ids ≤ 31 → first_bad ids ≡ None → first_double [] ids ≡ None

@@ -1,2 +1,1 @@
-mod RisingIds
 mod Changed

@@ -3,7 +3,7 @@ use Rattle.std.specs.Prelude.{ℕ, ◌+◌, ◌-◌, Bool, cond, not, ◌||◌, 
 use Rattle.group_quorum.specs.Conf.{Conf}
 use Rattle.group_quorum.specs.Voters.{is_in}
 use Rattle.group_quorum.specs.declared.TheConstants.{MAX_VOTERS}
-use Rattle.svr_base.specs.declared.limits.TheConstants.{TOP}
+use Rattle.values.specs.declared.limits.TheConstants.{TOP}
 use Rattle.replica_model.specs.declared.TheConstants.{MAX_LEARNERS}
 use Rattle.replica_model.specs.Changes.{are_few, with_voter, without_voter}
 use Rattle.member_rules.specs.declared.standing.Standing.{Standing}

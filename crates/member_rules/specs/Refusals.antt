@@ -1,7 +1,7 @@
 -- Faults as the model's refusals.
 use Rattle.std.specs.Prelude.{◌≡◌, Option, Some, None, Result, Ok, Err}
-use Rattle.svr_base.specs.declared.batch.Refusal.{Refusal}
-use Rattle.svr_base.specs.declared.batch.Refusal.TheVariants.{LogFull as RefusalLogFull, ChangePending as RefusalChangePending, AlreadyVoter as RefusalAlreadyVoter, NotVoter as RefusalNotVoter, TooFew as RefusalTooFew, TooMany as RefusalTooMany, NotCaughtUp as RefusalNotCaughtUp, NoLink as RefusalNoLink, SameMargin as RefusalSameMargin}
+use Rattle.values.specs.declared.batch.Refusal.{Refusal}
+use Rattle.values.specs.declared.batch.Refusal.TheVariants.{LogFull as RefusalLogFull, ChangePending as RefusalChangePending, AlreadyVoter as RefusalAlreadyVoter, NotVoter as RefusalNotVoter, TooFew as RefusalTooFew, TooMany as RefusalTooMany, NotCaughtUp as RefusalNotCaughtUp, NoLink as RefusalNoLink, SameMargin as RefusalSameMargin}
 use Rattle.group_quorum.specs.Conf.{Conf}
 use Rattle.member_rules.specs.declared.fault.MemberFault.{MemberFault}
 use Rattle.member_rules.specs.declared.fault.MemberFault.TheVariants.{LogFull, ChangePending, AlreadyVoter, NotVoter, TooFew, TooMany, NotCaughtUp, NoLink, SameMargin}

@@ -14,7 +14,7 @@ use crate::fault::MemberFault;
 use crate::standing::Standing;
 use group_quorum::Config;
 use replica_log::Log;
-use svr_base::ReplicaId;
+use values::ReplicaId;
 
 /// Whether an id may join as a learner, where so many learn already: no voter, an id with a link, and no learner too
 /// many. The faults are tried in this order.

@@ -2,7 +2,7 @@
 ghost use Rattle.std.specs.Prelude.{◌≡◌};
 ghost use Rattle.member_rules.specs.Refusals.{refusal_of};
 
-use svr_base::Refusal;
+use values::Refusal;
 
 /// Why a change of the members is refused.
 #[derive(Clone, Copy, Debug, PartialEq, Eq)]

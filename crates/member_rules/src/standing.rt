@@ -7,7 +7,7 @@ use crate::voters::{with_voter, without_voter};
 use group_quorum::{Config, MAX_VOTERS};
 use replica_log::Log;
 use replica_model::{MAX_LEARNERS, TOP};
-use svr_base::ReplicaId;
+use values::ReplicaId;
 
 /// The last and the committed index of a log, and its newest configuration with its index.
 #[derive(Clone, Copy, Debug)]

@@ -8,7 +8,7 @@ ghost use Rattle.member_rules.specs.Faults.{unless_fault};
 
 use crate::fault::MemberFault;
 use group_quorum::Config;
-use svr_base::ReplicaId;
+use values::ReplicaId;
 
 /// The configuration with one voter more.
 pub fn with_voter(config: &Config, id: ReplicaId) -> Config

@@ -1,10 +1,12 @@
 -- How far a log is promised and committed by the marks of its voters.
-use Rattle.std.specs.Prelude.{◌≡◌, ℕ, Bool, true, false, ◌&&◌, ◌||◌, ◌==◌, nat_le, List, Option, Some, None}
+use Rattle.std.specs.Prelude.{◌≡◌, ℕ, ◌<◌, ◌≤◌, Bool, true, false, ◌&&◌, ◌||◌, ◌==◌, nat_le, List, length, take, Option, Some, None}
 use Rattle.group_quorum.specs.Conf.{met}
 use Rattle.group_quorum.specs.Marks.{mark_of}
+use Rattle.group_quorum.specs.Voters.{is_in}
 use Rattle.replica_model.specs.Path.{Link}
 use Rattle.replica_model.specs.Enough.{greatest_upto}
-use Rattle.replica_model.specs.Replica.{Leading}
+use Rattle.replica_model.specs.Replica.{Replica, Leading}
+use Rattle.replica_model.specs.Peers.{voters_counted}
 use Rattle.replica_model.specs.Raise.{accepted_mark, promised_mark, promise_index, commit_index}
 use Rattle.replica_log.specs.declared.configs.Configs.{Configs}
 use Rattle.replica_log.specs.Window.{Window, IsOrdered, last_index, term_at, configs_at}
@@ -46,12 +48,20 @@ promised_by w term marks = greatest_upto (passes w (Some term) (mark_of marks)) 
 abbrev pub committed_by : Window → List (ℕ × ℕ) → ℕ
 committed_by w promises = greatest_upto (passes w None (mark_of promises)) w.committed w.promised
 
+-- the id counts at an index: it is one of the voters that count of a replica with so many entries of the path
+abbrev pub counts_at : Replica → ℕ → ℕ → Bool
+counts_at s i v = is_in (voters_counted (record s { path = take i s.path })) v
+
+-- of each voter that counts at an index above `had` and up to `top`, the mark is the model's
+abbrev pub AreMarks : Replica → ℕ → ℕ → List (ℕ × ℕ) → (ℕ → ℕ) → Type 0
+AreMarks s had top marks mark = (i v : ℕ) → had < i → i ≤ top → counts_at s i v ≡ true → mark_of marks v ≡ mark v
+
 -- where a log's indices are in order, the promised index that a leader's marks make is the model's
 abbrev pub PromisesAreTheModels : Type 0
 PromisesAreTheModels = (link : Link) (w : Window) → IsOrdered w → OfEach link w (λ s. (l : Leading) (marks : List (ℕ × ℕ))
-    → ((v : ℕ) → mark_of marks v ≡ accepted_mark s l v) → promised_by w s.term marks ≡ promise_index s l)
+    → AreMarks s s.promised (length s.path) marks (accepted_mark s l) → promised_by w s.term marks ≡ promise_index s l)
 
 -- and so is the committed index that the promises make
 abbrev pub CommitsAreTheModels : Type 0
 CommitsAreTheModels = (link : Link) (w : Window) → IsOrdered w → OfEach link w (λ s. (l : Leading) (promises : List (ℕ × ℕ))
-    → ((v : ℕ) → mark_of promises v ≡ promised_mark s l v) → committed_by w promises ≡ commit_index s l)
+    → AreMarks s s.committed s.promised promises (promised_mark s l) → committed_by w promises ≡ commit_index s l)

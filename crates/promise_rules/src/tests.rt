@@ -7,7 +7,7 @@ use group_quorum::Config;
 use replica_log::Log;
 use std::alloc::Global;
 use std::test::Fail;
-use svr_base::{Body, LogEntry};
+use values::{Body, LogEntry};
 
 fn noop(term: u64) -> LogEntry
     ensures { Fits result }

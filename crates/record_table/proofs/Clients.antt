@@ -6,7 +6,7 @@ use Rattle.std.specs.Ordering.{ordering_reverse, is_eq}
 use Rattle.std.specs.Cmp.{IsTotalOrder}
 use Rattle.std.specs.Cmp.Lexicographic.{nat_list_cmp_total}
 use Rattle.std.specs.FinMap.{slice_cmp-IsAntisymmetric, nat_cmp-IsAntisymmetric}
-use Rattle.svr_base.specs.declared.ids.ClientId.{ClientId}
+use Rattle.values.specs.declared.ids.ClientId.{ClientId}
 use Rattle.record_table.specs.Clients.{client_cmp, client_eq}
 
 pub client_total : IsTotalOrder client_cmp

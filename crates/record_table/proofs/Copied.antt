@@ -3,7 +3,7 @@ use Rattle.std.proofs.Common.{◌≡◌, ℕ, zero, suc, ◌+◌, ◌-◌, ◌<�
 use Rattle.std.specs.Prelude.{Some, None, slice_get, slice_index_or}
 use Rattle.std.proofs.lemmas.Option.{slice_get_within, get_or_from_slice_get}
 use Rattle.std.proofs.lemmas.List.{take_more, get_or-drop}
-use Rattle.svr_base.specs.declared.row.Row.{Row}
+use Rattle.values.specs.declared.row.Row.{Row}
 
 -- the rows from a place on, with the next one
 pub one_more : (rows : List Row) (place at : ℕ) (row : Row) → place ≤ at → slice_get rows at ≡ Some row

@@ -3,19 +3,19 @@ use Rattle.std.proofs.Common.{◌≡◌, ℕ, zero, suc, ◌<◌, ◌≤◌, Boo
 use Rattle.std.specs.Prelude.{Option, Some, None, IsSome, IsSomeAnd, IfSome, unwrap_or, option_map, nat_lt, bytes_eq, is_some}
 use Rattle.std.proofs.lemmas.Slice.Eq.{bytes_eq-Decides}
 use Rattle.std.proofs.lemmas.Bool.{ltb-true, ltb-false}
-use Rattle.svr_base.specs.declared.entry.Hash.{Hash}
-use Rattle.svr_base.specs.declared.ids.ClientId.{ClientId}
-use Rattle.svr_base.specs.declared.row.Row.{Row}
-use Rattle.svr_base.specs.declared.row.Kept.{Kept}
-use Rattle.svr_base.specs.declared.message.Request.{Request}
-use Rattle.svr_base.specs.declared.message.Request.TheVariants.{Backup, Restore, Delete, Expose}
-use Rattle.svr_base.specs.declared.message.Response.{Response}
-use Rattle.svr_base.specs.declared.message.Response.TheVariants.{Restore as Restored, Expose as Exposed}
-use Rattle.svr_base.specs.declared.message.Reply.{Reply}
-use Rattle.svr_base.specs.declared.message.Reply.TheVariants.{Applied, Stale, TableFull}
+use Rattle.values.specs.declared.entry.Hash.{Hash}
+use Rattle.values.specs.declared.ids.ClientId.{ClientId}
+use Rattle.values.specs.declared.row.Row.{Row}
+use Rattle.values.specs.declared.row.Kept.{Kept}
+use Rattle.values.specs.declared.message.Request.{Request}
+use Rattle.values.specs.declared.message.Request.TheVariants.{Backup, Restore, Delete, Expose}
+use Rattle.values.specs.declared.message.Response.{Response}
+use Rattle.values.specs.declared.message.Response.TheVariants.{Restore as Restored, Expose as Exposed}
+use Rattle.values.specs.declared.message.Reply.{Reply}
+use Rattle.values.specs.declared.message.Reply.TheVariants.{Applied, Stale, TableFull}
 use Rattle.record_table.specs.declared.status.TheConstants.{OK, MISSING, ERROR}
 use Rattle.record_table.specs.Rules.{act, after_guess, after_wrong_guess}
-use Rattle.svr_base.specs.Sizes.{IsValid}
+use Rattle.values.specs.Sizes.{IsValid}
 use Rattle.record_table.specs.Places.{ClientAsk, Places, fold_places, ask_at, reply_at, is_ask_of, is_mismatch, IsApplied, ActsAs, wrong_guesses}
 use Rattle.record_table.specs.Laws.{AreValid, NoBackup, NoDelete, Earned, GuessesEnd, DataIsEarned, record_of, row_after}
 use Rattle.record_table.proofs.Clients.{client_eq-self}

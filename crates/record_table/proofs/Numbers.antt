@@ -1,9 +1,9 @@
 -- Numbers of a known client rise.
 use Rattle.std.proofs.Common.{◌≡◌, ℕ, zero, suc, ◌+◌, ◌-◌, ◌<◌, ◌≤◌, true, refl, sym, ap, subst, ◌∙◌, arith, add-zero, add-suc}
 use Rattle.std.specs.Prelude.{Option, Some, None, IsSome, IsSomeAnd}
-use Rattle.svr_base.specs.declared.ids.ClientId.{ClientId}
-use Rattle.svr_base.specs.declared.row.Row.{Row}
-use Rattle.svr_base.specs.declared.message.Reply.{Reply}
+use Rattle.values.specs.declared.ids.ClientId.{ClientId}
+use Rattle.values.specs.declared.row.Row.{Row}
+use Rattle.values.specs.declared.message.Reply.{Reply}
 use Rattle.record_table.specs.Clients.{client_eq}
 use Rattle.record_table.specs.Places.{ClientAsk, Places, is_ask_of, IsApplied}
 use Rattle.record_table.specs.Laws.{NumbersRise, row_after}

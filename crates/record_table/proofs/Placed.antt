@@ -5,8 +5,8 @@ use Rattle.std.specs.declared.cmp.Ordering.{Ordering}
 use Rattle.std.specs.declared.cmp.Ordering.TheVariants.{Less, Equal, Greater}
 use Rattle.std.specs.Ordering.{is_eq, match_ordering}
 use Rattle.std.proofs.lemmas.Option.{slice_get_within, get_or_from_slice_get}
-use Rattle.svr_base.specs.declared.ids.ClientId.{ClientId}
-use Rattle.svr_base.specs.declared.row.Row.{Row}
+use Rattle.values.specs.declared.ids.ClientId.{ClientId}
+use Rattle.values.specs.declared.row.Row.{Row}
 use Rattle.record_table.specs.Clients.{client_cmp}
 use Rattle.record_table.specs.Table.{row_of, put_row, IsRising}
 use Rattle.record_table.proofs.Clients.{client_total, flip, client_cmp-same, client_cmp-self, client_eq-self}

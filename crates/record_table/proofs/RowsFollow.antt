@@ -2,13 +2,13 @@
 use Rattle.std.proofs.Common.{◌≡◌, ℕ, suc, ◌⊎◌, inl, inr, List, refl, sym, ap, subst, ◌∙◌}
 use Rattle.std.specs.Prelude.{Option, Some, IsSome, IsSomeAnd}
 use Rattle.std.proofs.lemmas.Option.{same_Some}
-use Rattle.svr_base.specs.declared.entry.Hash.{Hash}
-use Rattle.svr_base.specs.declared.ids.ClientId.{ClientId}
-use Rattle.svr_base.specs.declared.row.Row.{Row}
-use Rattle.svr_base.specs.declared.message.Request.{Request}
-use Rattle.svr_base.specs.declared.message.Request.TheVariants.{Backup, Restore, Delete, Expose}
-use Rattle.svr_base.specs.declared.message.Reply.{Reply}
-use Rattle.svr_base.specs.declared.message.Reply.TheVariants.{Applied}
+use Rattle.values.specs.declared.entry.Hash.{Hash}
+use Rattle.values.specs.declared.ids.ClientId.{ClientId}
+use Rattle.values.specs.declared.row.Row.{Row}
+use Rattle.values.specs.declared.message.Request.{Request}
+use Rattle.values.specs.declared.message.Request.TheVariants.{Backup, Restore, Delete, Expose}
+use Rattle.values.specs.declared.message.Reply.{Reply}
+use Rattle.values.specs.declared.message.Reply.TheVariants.{Applied}
 use Rattle.record_table.specs.Table.{kept_in}
 use Rattle.record_table.specs.Rules.{act}
 use Rattle.record_table.specs.Places.{ClientAsk, Places, ask_at, reply_at, IsApplied}

@@ -7,9 +7,9 @@ use Rattle.std.proofs.lemmas.Bool.{ltb-true, ltb-false, eqb-true, eqb-false}
 use Rattle.std.proofs.lemmas.List.{get_or-map, get_or_default, get_or-set_same, get_or-set_other, get_or_append_left, get_or_at, length-map, length-set, same_lists, length-append}
 use Rattle.std.proofs.lemmas.List.Edits.{length-insert}
 use Rattle.std.proofs.lemmas.Option.{slice_get-get_or}
-use Rattle.svr_base.specs.declared.ids.ClientId.{ClientId}
-use Rattle.svr_base.specs.declared.row.Row.{Row}
-use Rattle.record_table.specs.declared.store.TheConstants.{MOST_ROWS}
+use Rattle.values.specs.declared.ids.ClientId.{ClientId}
+use Rattle.values.specs.declared.row.Row.{Row}
+use Rattle.values.specs.declared.limits.TheConstants.{MOST_ROWS}
 use Rattle.record_table.specs.declared.change.Change.{Change}
 use Rattle.record_table.specs.Clients.{client_cmp, IsNumberOf}
 use Rattle.record_table.specs.Table.{row_of, put_row, kept_in, IsRising}

@@ -6,14 +6,14 @@ use Rattle.std.specs.declared.cmp.Ordering.TheVariants.{Less, Equal, Greater}
 use Rattle.std.specs.Ordering.{match_ordering}
 use Rattle.std.proofs.Math.ListN.{length-set}
 use Rattle.std.proofs.lemmas.Bool.{eqb-false}
-use Rattle.svr_base.specs.declared.entry.Hash.{Hash}
-use Rattle.svr_base.specs.declared.ids.ClientId.{ClientId}
-use Rattle.svr_base.specs.declared.row.Row.{Row}
-use Rattle.svr_base.specs.declared.row.Kept.{Kept}
-use Rattle.svr_base.specs.declared.message.Request.{Request}
-use Rattle.svr_base.specs.declared.message.Request.TheVariants.{Backup, Restore, Delete, Expose}
-use Rattle.svr_base.specs.declared.message.Response.{Response}
-use Rattle.svr_base.specs.declared.message.Response.TheVariants.{Restore as Restored, Expose as Exposed}
+use Rattle.values.specs.declared.entry.Hash.{Hash}
+use Rattle.values.specs.declared.ids.ClientId.{ClientId}
+use Rattle.values.specs.declared.row.Row.{Row}
+use Rattle.values.specs.declared.row.Kept.{Kept}
+use Rattle.values.specs.declared.message.Request.{Request}
+use Rattle.values.specs.declared.message.Request.TheVariants.{Backup, Restore, Delete, Expose}
+use Rattle.values.specs.declared.message.Response.{Response}
+use Rattle.values.specs.declared.message.Response.TheVariants.{Restore as Restored, Expose as Exposed}
 use Rattle.record_table.specs.declared.status.TheConstants.{OK, MISSING, ERROR}
 use Rattle.record_table.specs.Clients.{client_cmp, client_eq}
 use Rattle.record_table.specs.Table.{RecordTable, row_of, kept_in, put_row, IsRising, with_row}
@@ -21,7 +21,7 @@ use Rattle.record_table.specs.declared.change.Change.{Change}
 use Rattle.record_table.specs.declared.change.Change.TheVariants.{Keep}
 use Rattle.record_table.specs.Changes.{kept_after, IsOutcome}
 use Rattle.record_table.specs.Rules.{act, after_guess, after_wrong_guess}
-use Rattle.svr_base.specs.Sizes.{IsValid}
+use Rattle.values.specs.Sizes.{IsValid}
 use Rattle.record_table.specs.Valid.{IsValidRecord, IsValidRow, IsSound}
 use Rattle.record_table.proofs.Rows.{row_of-client}
 use Rattle.record_table.proofs.Placed.{IsRowAt, put_row-at, IsRising-put}

@@ -7,7 +7,7 @@ use Rattle.std.specs.Ordering.{MatchOrdering, ordering_then, nat_cmp}
 use Rattle.std.specs.Cmp.{nat_cmp_is, ranks}
 use Rattle.std.specs.Cmp.Lexicographic.{slice_cmp}
 use Rattle.std.specs.Int.{w128, byte_worth, sum_through, from_be_bytes}
-use Rattle.svr_base.specs.declared.ids.ClientId.{ClientId}
+use Rattle.values.specs.declared.ids.ClientId.{ClientId}
 use Rattle.record_table.specs.Clients.{client_cmp, IsNumberOf}
 use Rattle.std.proofs.Math.Nat.{mul-le-mul_right}
 

@@ -5,13 +5,13 @@ use Rattle.std.specs.declared.cmp.Ordering.TheVariants.{Less}
 use Rattle.std.proofs.lemmas.Bool.{cond_both, eqb-false, lt-ltb}
 use Rattle.std.proofs.lemmas.List.{append-nil, append_assoc, length-append, get_or_append_left, get_or_at}
 use Rattle.std.proofs.lemmas.List.Edits.{insert_end}
-use Rattle.svr_base.specs.declared.ids.ClientId.{ClientId}
-use Rattle.svr_base.specs.declared.row.Row.{Row}
-use Rattle.svr_base.specs.declared.row.Kept.{Kept}
-use Rattle.svr_base.specs.declared.message.Request.{Request}
-use Rattle.svr_base.specs.declared.message.Request.TheVariants.{Backup, Restore, Delete, Expose}
-use Rattle.svr_base.specs.declared.message.Reply.{Reply}
-use Rattle.svr_base.specs.declared.message.Reply.TheVariants.{Stale, TableFull}
+use Rattle.values.specs.declared.ids.ClientId.{ClientId}
+use Rattle.values.specs.declared.row.Row.{Row}
+use Rattle.values.specs.declared.row.Kept.{Kept}
+use Rattle.values.specs.declared.message.Request.{Request}
+use Rattle.values.specs.declared.message.Request.TheVariants.{Backup, Restore, Delete, Expose}
+use Rattle.values.specs.declared.message.Reply.{Reply}
+use Rattle.values.specs.declared.message.Reply.TheVariants.{Stale, TableFull}
 use Rattle.record_table.specs.Clients.{client_cmp}
 use Rattle.record_table.specs.Table.{RecordTable, empty_table, row_of, put_row, IsRising, with_row, row_added}
 use Rattle.record_table.specs.Rules.{act, after_acting, apply_by}

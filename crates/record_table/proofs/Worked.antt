@@ -1,14 +1,14 @@
 -- The definitions, run on short lists of asks.
 use Rattle.std.proofs.Common.{◌≡◌, ℕ, zero, suc, List, [], ◌∷◌, ◌++◌, map, length, replicate, refl}
 use Rattle.std.specs.Prelude.{Option, Some, None}
-use Rattle.svr_base.specs.declared.entry.Hash.{Hash}
-use Rattle.svr_base.specs.declared.ids.ClientId.{ClientId}
-use Rattle.svr_base.specs.declared.message.Request.{Request}
-use Rattle.svr_base.specs.declared.message.Request.TheVariants.{Backup, Restore, Delete, Expose}
-use Rattle.svr_base.specs.declared.message.Response.{Response}
-use Rattle.svr_base.specs.declared.message.Response.TheVariants.{Backup as BackedUp, Restore as Restored, Delete as Deleted, Expose as Exposed}
-use Rattle.svr_base.specs.declared.message.Reply.{Reply}
-use Rattle.svr_base.specs.declared.message.Reply.TheVariants.{Applied, Stale, TableFull}
+use Rattle.values.specs.declared.entry.Hash.{Hash}
+use Rattle.values.specs.declared.ids.ClientId.{ClientId}
+use Rattle.values.specs.declared.message.Request.{Request}
+use Rattle.values.specs.declared.message.Request.TheVariants.{Backup, Restore, Delete, Expose}
+use Rattle.values.specs.declared.message.Response.{Response}
+use Rattle.values.specs.declared.message.Response.TheVariants.{Backup as BackedUp, Restore as Restored, Delete as Deleted, Expose as Exposed}
+use Rattle.values.specs.declared.message.Reply.{Reply}
+use Rattle.values.specs.declared.message.Reply.TheVariants.{Applied, Stale, TableFull}
 use Rattle.record_table.specs.Places.{ClientAsk, Places, fold_places, reply_at, wrong_guesses}
 
 abbrev client : ℕ → ClientId

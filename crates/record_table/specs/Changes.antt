@@ -1,10 +1,10 @@
 -- What a change makes of a record.
 use Rattle.std.specs.Prelude.{◌≡◌, ℕ, true, List, Option, Some, None}
-use Rattle.svr_base.specs.declared.ids.ClientId.{ClientId}
-use Rattle.svr_base.specs.declared.row.Row.{Row}
-use Rattle.svr_base.specs.declared.row.Kept.{Kept}
-use Rattle.svr_base.specs.declared.message.Request.{Request}
-use Rattle.svr_base.specs.declared.message.Response.{Response}
+use Rattle.values.specs.declared.ids.ClientId.{ClientId}
+use Rattle.values.specs.declared.row.Row.{Row}
+use Rattle.values.specs.declared.row.Kept.{Kept}
+use Rattle.values.specs.declared.message.Request.{Request}
+use Rattle.values.specs.declared.message.Response.{Response}
 use Rattle.record_table.specs.declared.change.Change.{Change}
 use Rattle.record_table.specs.declared.change.Change.TheVariants.{Stay, Forget, Keep, Expose, Leave}
 use Rattle.record_table.specs.Table.{row_of, kept_in}

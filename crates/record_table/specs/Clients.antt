@@ -4,7 +4,7 @@ use Rattle.std.specs.declared.cmp.Ordering.{Ordering}
 use Rattle.std.specs.Ordering.{is_eq, nat_cmp}
 use Rattle.std.specs.Cmp.Lexicographic.{slice_cmp}
 use Rattle.std.specs.Int.{w128, from_be_bytes}
-use Rattle.svr_base.specs.declared.ids.ClientId.{ClientId}
+use Rattle.values.specs.declared.ids.ClientId.{ClientId}
 
 abbrev pub client_cmp : ClientId → ClientId → Ordering
 client_cmp a b = slice_cmp nat_cmp a.0 b.0

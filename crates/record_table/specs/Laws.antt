@@ -1,17 +1,17 @@
 -- What holds of every list of asks.
 use Rattle.std.specs.Prelude.{◌≡◌, ℕ, suc, ◌-◌, ◌<◌, ◌≤◌, ◌⊎◌, ⊤, List, take, length, Option, Some, None, IsSome, IfSome, All}
-use Rattle.svr_base.specs.declared.entry.Hash.{Hash}
-use Rattle.svr_base.specs.declared.ids.ClientId.{ClientId}
-use Rattle.svr_base.specs.declared.row.Row.{Row}
-use Rattle.svr_base.specs.declared.row.Kept.{Kept}
-use Rattle.svr_base.specs.declared.message.Request.{Request}
-use Rattle.svr_base.specs.declared.message.Request.TheVariants.{Backup, Restore, Delete, Expose}
-use Rattle.svr_base.specs.declared.message.Response.TheVariants.{Restore as Restored, Expose as Exposed}
-use Rattle.svr_base.specs.declared.message.Reply.TheVariants.{Applied}
+use Rattle.values.specs.declared.entry.Hash.{Hash}
+use Rattle.values.specs.declared.ids.ClientId.{ClientId}
+use Rattle.values.specs.declared.row.Row.{Row}
+use Rattle.values.specs.declared.row.Kept.{Kept}
+use Rattle.values.specs.declared.message.Request.{Request}
+use Rattle.values.specs.declared.message.Request.TheVariants.{Backup, Restore, Delete, Expose}
+use Rattle.values.specs.declared.message.Response.TheVariants.{Restore as Restored, Expose as Exposed}
+use Rattle.values.specs.declared.message.Reply.TheVariants.{Applied}
 use Rattle.record_table.specs.declared.status.TheConstants.{OK}
 use Rattle.record_table.specs.Table.{RecordTable, row_of, kept_in, IsRising}
 use Rattle.record_table.specs.Rules.{act}
-use Rattle.svr_base.specs.Sizes.{IsValid}
+use Rattle.values.specs.Sizes.{IsValid}
 use Rattle.record_table.specs.Places.{ClientAsk, Places, fold_places, ask_at, reply_at, Acts, ActsAs, wrong_guesses}
 
 -- the client's record, if there is one

@@ -1,10 +1,10 @@
 -- Lists of asks, as the places of a log, from 1.
 use Rattle.std.specs.Prelude.{◌≡◌, ℕ, zero, suc, ◌+◌, nat_lt, ◌==◌, ◌&&◌, Bool, false, if◌then◌else◌, List, take, fold, slice_get, Option, Some, None, option_map, option_and_then, unwrap_or, IsSomeAnd, ⊤}
-use Rattle.svr_base.specs.declared.ids.ClientId.{ClientId}
-use Rattle.svr_base.specs.declared.message.Request.{Request}
-use Rattle.svr_base.specs.declared.message.Response.TheVariants.{Restore as Restored}
-use Rattle.svr_base.specs.declared.message.Reply.{Reply}
-use Rattle.svr_base.specs.declared.message.Reply.TheVariants.{Applied, Stale, TableFull}
+use Rattle.values.specs.declared.ids.ClientId.{ClientId}
+use Rattle.values.specs.declared.message.Request.{Request}
+use Rattle.values.specs.declared.message.Response.TheVariants.{Restore as Restored}
+use Rattle.values.specs.declared.message.Reply.{Reply}
+use Rattle.values.specs.declared.message.Reply.TheVariants.{Applied, Stale, TableFull}
 use Rattle.record_table.specs.declared.status.TheConstants.{PIN_MISMATCH}
 use Rattle.record_table.specs.Clients.{client_eq}
 use Rattle.record_table.specs.Table.{RecordTable, empty_table}

@@ -1,15 +1,15 @@
 -- The record rules, and what one ask makes of a table.
 use Rattle.std.specs.Prelude.{ℕ, ◌-◌, ◌==◌, nat_le, true, false, if◌then◌else◌, List, [], length, bytes_eq, Option, Some, None}
-use Rattle.svr_base.specs.declared.entry.Hash.{Hash}
-use Rattle.svr_base.specs.declared.ids.ClientId.{ClientId}
-use Rattle.svr_base.specs.declared.row.Row.{Row}
-use Rattle.svr_base.specs.declared.row.Kept.{Kept}
-use Rattle.svr_base.specs.declared.message.Request.{Request}
-use Rattle.svr_base.specs.declared.message.Request.TheVariants.{Backup, Restore, Delete, Expose}
-use Rattle.svr_base.specs.declared.message.Response.{Response}
-use Rattle.svr_base.specs.declared.message.Response.TheVariants.{Backup as BackedUp, Restore as Restored, Delete as Deleted, Expose as Exposed}
-use Rattle.svr_base.specs.declared.message.Reply.{Reply}
-use Rattle.svr_base.specs.declared.message.Reply.TheVariants.{Applied, Stale, TableFull}
+use Rattle.values.specs.declared.entry.Hash.{Hash}
+use Rattle.values.specs.declared.ids.ClientId.{ClientId}
+use Rattle.values.specs.declared.row.Row.{Row}
+use Rattle.values.specs.declared.row.Kept.{Kept}
+use Rattle.values.specs.declared.message.Request.{Request}
+use Rattle.values.specs.declared.message.Request.TheVariants.{Backup, Restore, Delete, Expose}
+use Rattle.values.specs.declared.message.Response.{Response}
+use Rattle.values.specs.declared.message.Response.TheVariants.{Backup as BackedUp, Restore as Restored, Delete as Deleted, Expose as Exposed}
+use Rattle.values.specs.declared.message.Reply.{Reply}
+use Rattle.values.specs.declared.message.Reply.TheVariants.{Applied, Stale, TableFull}
 use Rattle.record_table.specs.declared.status.TheConstants.{OK, MISSING, PIN_MISMATCH, ERROR}
 use Rattle.record_table.specs.Table.{RecordTable, row_of, put_row}
 

@@ -1,7 +1,7 @@
 -- Rows in slots, listed by a list of slots.
 use Rattle.std.specs.Prelude.{◌≡◌, ℕ, ◌<◌, ◌≤◌, List, [], map, length, slice_index, slice_index_or, None, All}
-use Rattle.svr_base.specs.declared.row.Row.{Row}
-use Rattle.record_table.specs.declared.store.TheConstants.{MOST_ROWS}
+use Rattle.values.specs.declared.row.Row.{Row}
+use Rattle.values.specs.declared.limits.TheConstants.{MOST_ROWS}
 use Rattle.record_table.specs.Clients.{IsNumberOf}
 use Rattle.record_table.specs.Table.{IsRising}
 

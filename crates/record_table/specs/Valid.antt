@@ -1,9 +1,9 @@
 -- The sizes of valid records.
 use Rattle.std.specs.Prelude.{◌≤◌, length, IfSome, All}
-use Rattle.svr_base.specs.declared.row.Kept.{Kept}
-use Rattle.svr_base.specs.declared.row.Row.{Row}
-use Rattle.svr_base.specs.Sizes.{IsSecret, AreTries}
-use Rattle.record_table.specs.declared.store.TheConstants.{MOST_ROWS}
+use Rattle.values.specs.declared.row.Kept.{Kept}
+use Rattle.values.specs.declared.row.Row.{Row}
+use Rattle.values.specs.Sizes.{IsSecret, AreTries}
+use Rattle.values.specs.declared.limits.TheConstants.{MOST_ROWS}
 use Rattle.record_table.specs.Table.{RecordTable, IsRising}
 
 -- each size of the record is in its range

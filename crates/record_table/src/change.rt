@@ -2,7 +2,7 @@
 ghost use Rattle.std.specs.Prelude.{◌≡◌};
 ghost use Rattle.record_table.specs.Changes.{kept_after};
 
-use svr_base::{Kept, Row};
+use values::{Kept, Row};
 
 /// A change of a client's record.
 #[derive(Debug, Drop)]

@@ -19,7 +19,7 @@ pub use laws::{
     rows_make_their_table, tables_are_bounded,
 };
 pub use sorted::SortedRows;
-pub use store::{MOST_ROWS, RowStore};
+pub use store::RowStore;
 pub use table::{Table, TableOver};
 
 #[cfg(test)]

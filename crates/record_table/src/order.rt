@@ -1,7 +1,7 @@
 //! The order of clients.
 ghost use Rattle.record_table.specs.Clients.{IsNumberOf};
 
-use svr_base::ClientId;
+use values::ClientId;
 
 /// The number that the client's bytes spell, the first of them worth most. Clients stand in the
 /// order of their numbers, and two numbers are compared at once.

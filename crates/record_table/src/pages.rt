@@ -5,7 +5,7 @@ ghost use Rattle.record_table.specs.Pages.{IsPage, page_at, place_of, IsSpot, Ha
 
 use std::alloc::Global;
 use std::marker::Model;
-use svr_base::{Memory, TryCopy};
+use values::{Memory, TryCopy};
 
 /// The most slots of a page.
 pub const PAGE: usize = 256;

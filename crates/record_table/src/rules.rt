@@ -1,12 +1,12 @@
 //! The record rules: how a request that acts changes its client's record, and what is answered.
 ghost use Rattle.std.specs.Prelude.{◌≡◌, [], Option, Some, IfOk, option_copied};
-ghost use Rattle.svr_base.specs.declared.row.Kept.{Kept as KeptRecord};
+ghost use Rattle.values.specs.declared.row.Kept.{Kept as KeptRecord};
 ghost use Rattle.record_table.specs.Changes.{IsOutcome};
 
 use crate::change::Change;
 use crate::status::{ERROR, MISSING, OK, PIN_MISMATCH};
 use std::alloc::Global;
-use svr_base::{Bytes, Hash, Kept, Memory, Request, Response, TryCopy};
+use values::{Bytes, Hash, Kept, Memory, Request, Response, TryCopy};
 
 /// What a request makes of a record that may be there, and its response.
 pub fn outcome(

@@ -7,7 +7,7 @@ use crate::search::search;
 use crate::store::RowStore;
 use std::alloc::Global;
 use std::marker::Model;
-use svr_base::{ClientId, Memory, Row, TryCopy};
+use values::{ClientId, Memory, Row, TryCopy};
 
 /// Rows in slots, and the list of the slots in rising client order. A new row moves numbers of
 /// slots alone, two bytes each, and no row. The clients' numbers stand by themselves, so that a
@@ -22,7 +22,7 @@ pub struct SortedRows {
 impl Model for SortedRows {
     ghost use Rattle.std.specs.Prelude.{List};
     ghost use Rattle.std.specs.List.{concat};
-    ghost use Rattle.svr_base.specs.declared.row.Row.{Row};
+    ghost use Rattle.values.specs.declared.row.Row.{Row};
     ghost use Rattle.record_table.specs.Slots.{rows_in, IsSorted};
 
     ghost Value = { List Row };

@@ -1,16 +1,14 @@
 //! Stores of rows.
 ghost use Rattle.std.specs.Prelude.{◌≡◌, ◌<◌, ◌⊎◌, [], length, List, IsSome, IfOk, OnOk, OnErr, option_copied, slice_get};
+ghost use Rattle.values.specs.declared.limits.TheConstants.{MOST_ROWS};
 
 use crate::change::Change;
 use std::alloc::Global;
-use svr_base::{ClientId, Memory, Row};
-
-/// The most rows that a store has to hold.
-pub const MOST_ROWS: u32 = 20_000;
+use values::{ClientId, Memory, Row};
 
 /// A store of rows. Its content is a list of rows in strictly rising client order.
 pub trait RowStore: Sized {
-    ghost use Rattle.svr_base.specs.declared.row.Row.{Row};
+    ghost use Rattle.values.specs.declared.row.Row.{Row};
     ghost use Rattle.record_table.specs.Table.{row_of, put_row, IsRising};
     ghost use Rattle.record_table.specs.Changes.{changed_row};
 

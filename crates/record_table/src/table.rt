@@ -3,10 +3,10 @@
 use crate::change::Change;
 use crate::rules::outcome;
 use crate::sorted::SortedRows;
-use crate::store::{MOST_ROWS, RowStore};
+use crate::store::RowStore;
 use std::alloc::Global;
 use std::marker::Model;
-use svr_base::{ClientId, Memory, Reply, Request, Row, Rows, TryCopy};
+use values::{ClientId, Memory, Reply, Request, Row, Rows, TryCopy};
 
 /// A limit, and a finite map from clients to rows. Contracts see both; the rows stand in strictly
 /// rising client order.
@@ -33,8 +33,9 @@ impl<T: RowStore> Model for TableOver<T> {
 
 impl<T: RowStore> TableOver<T> {
     ghost use Rattle.std.specs.Prelude.{◌≡◌, ◌≤◌, IsNone, length, take, drop, IfOk, OnOk, OnErr, option_copied};
+    ghost use Rattle.values.specs.declared.limits.TheConstants.{MOST_ROWS};
     ghost use Rattle.record_table.specs.Table.{empty_table, row_of, can_add, row_added};
-    ghost use Rattle.svr_base.specs.Sizes.{IsValid};
+    ghost use Rattle.values.specs.Sizes.{IsValid};
     ghost use Rattle.record_table.specs.Valid.{IsValidRow, IsSound};
     ghost use Rattle.record_table.specs.Rules.{apply, ask_unknown};
 

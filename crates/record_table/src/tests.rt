@@ -1,6 +1,6 @@
 //! Each public call on its happy path.
 ghost use Rattle.std.specs.Prelude.{IfOk};
-ghost use Rattle.svr_base.specs.Sizes.{IsValid};
+ghost use Rattle.values.specs.Sizes.{IsValid};
 ghost use Rattle.record_table.specs.Valid.{IsValidRow};
 
 use crate::change::{Change, change_row};
@@ -10,7 +10,7 @@ use crate::store::RowStore;
 use crate::table::Table;
 use std::alloc::Global;
 use std::test::Fail;
-use svr_base::{Bytes, ClientId, Hash, Kept, Memory, Reply, Request, Response, Row};
+use values::{Bytes, ClientId, Hash, Kept, Memory, Reply, Request, Response, Row};
 
 const PIN: Hash = Hash([0x11; 32]);
 

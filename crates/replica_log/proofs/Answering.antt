@@ -2,8 +2,8 @@
 use Rattle.std.proofs.Common.{◌≡◌, ℕ, ◌+◌, ◌-◌, ◌<◌, ◌≤◌, Bool, false, ◌||◌, cond, Option, Some, None, List, [], ◌∷◌, ◌++◌, length, take, drop, nat_lt, nat_le, refl, sym, ap, ◌∙◌, subst, length-append, length-drop, arith}
 use Rattle.std.proofs.lemmas.Bool.{cond-true, cond-false, cond_both, leb-true, leb-false, ltb-false, eqb-false, or_parts}
 use Rattle.std.proofs.lemmas.List.{take-append-le, take-take, drop-append-le, drop-take, length-take-le}
-use Rattle.svr_base.specs.declared.entry.Hash.{Hash}
-use Rattle.svr_base.specs.declared.entry.Point.{Point}
+use Rattle.values.specs.declared.entry.Hash.{Hash}
+use Rattle.values.specs.declared.entry.Point.{Point}
 use Rattle.replica_model.specs.Path.{Path, Link}
 use Rattle.replica_model.specs.Replica.{Replica}
 use Rattle.replica_model.specs.Graft.{Offer, Difference, differing, differs_at, points_of, points_from, end_of, kept_length, added, first_difference, refusal_hint}

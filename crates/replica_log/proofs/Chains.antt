@@ -3,11 +3,11 @@ use Rattle.std.proofs.Common.{true, false, ◌≡◌, ℕ, zero, suc, ◌+◌, �
 use Rattle.std.proofs.lemmas.Bool.{cases_Bool, cases_lt, cond-true, cond-false, lt-ltb, le-ltb}
 use Rattle.std.specs.List.{AllByRecursion}
 use Rattle.std.proofs.lemmas.List.{length-take, take_all}
-use Rattle.svr_base.specs.declared.entry.Body.{Body}
-use Rattle.svr_base.specs.declared.entry.Body.TheVariants.{Noop, Ask, Members}
-use Rattle.svr_base.specs.declared.entry.Hash.{Hash}
-use Rattle.svr_base.specs.declared.entry.LogEntry.{LogEntry}
-use Rattle.svr_base.specs.declared.entry.Point.{Point}
+use Rattle.values.specs.declared.entry.Body.{Body}
+use Rattle.values.specs.declared.entry.Body.TheVariants.{Noop, Ask, Members}
+use Rattle.values.specs.declared.entry.Hash.{Hash}
+use Rattle.values.specs.declared.entry.LogEntry.{LogEntry}
+use Rattle.values.specs.declared.entry.Point.{Point}
 use Rattle.group_quorum.specs.Conf.{Conf}
 use Rattle.replica_model.specs.Path.{Path, Link, chain_from}
 use Rattle.replica_model.specs.Configs.{is_members, changed_by, conf, conf_index_from}

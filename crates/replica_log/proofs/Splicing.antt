@@ -1,8 +1,9 @@
 -- Entries put in the place of the last ones, and the base moved entry by entry.
-use Rattle.std.proofs.Common.{◌≡◌, ℕ, zero, suc, ◌+◌, ◌-◌, ◌<◌, ◌≤◌, ◌^◌, List, [], ◌∷◌, ◌++◌, length, map, take, drop, refl, sym, ap, ◌∙◌, subst, length-append, length-drop, arith}
+use Rattle.std.proofs.Common.{◌≡◌, ℕ, zero, suc, ◌+◌, ◌-◌, ◌<◌, ◌≤◌, List, [], ◌∷◌, ◌++◌, length, map, take, drop, refl, sym, ap, ◌∙◌, subst, length-append, length-drop, arith}
 use Rattle.std.specs.List.{AllByRecursion}
 use Rattle.std.proofs.lemmas.List.{length-take-le, drop-drop}
-use Rattle.svr_base.specs.declared.entry.Hash.{Hash}
+use Rattle.values.specs.declared.entry.Hash.{Hash}
+use Rattle.values.specs.declared.limits.TheConstants.{TOP}
 use Rattle.group_quorum.specs.Conf.{Conf}
 use Rattle.replica_model.specs.Path.{Path, Link, chain_from}
 use Rattle.replica_model.specs.Configs.{conf, conf_index_from}
@@ -57,10 +58,9 @@ pub record StoredAgain (a : Inside) (i : ℕ) (p : Path) (more : List Chained) :
   pub chained : more ≡ chained_from sha_link a.base.hash a.base.index a.conf_index (map (λ (c : Chained). c.entry) more)
   pub fit : AllByRecursion Fits (map (λ (c : Chained). c.entry) more)
   pub ordered : IsOrdered (record (window_in a) { entries = map (λ (c : Chained). c.entry) more })
-  pub last : a.base.index + length (map (λ (c : Chained). c.entry) more) < 2 ^ 64
 
 pub stored_again : (a : Inside) → IsStored a → (i : ℕ) (p : Path) (more : List Chained) → a.promised ≤ i → i ≤ last_index (window_in a)
-    → AllByRecursion Fits p → i + length p < 2 ^ 64
+    → AllByRecursion Fits p → i + length p ≤ TOP
     → more ≡ take (i - a.base.index) a.kept.items ++ chained_from sha_link (point_at sha_link (window_in a) i).hash i (conf_index_at (window_in a) i) p
     → StoredAgain a i p more
 stored_again a s i p more promised last fits room made =
@@ -79,9 +79,9 @@ stored_again a s i p more promised last fits room made =
         committed = s.ordered.committed;
         promised = s.ordered.promised;
         last = omega (arith, count);
+        top = omega (arith, count, room);
         conf_index = s.ordered.conf_index;
       };
-      last = omega (arith, count);
     }
 
 term_from-append : (t : ℕ) (p q : Path) → term_from t (p ++ q) ≡ term_from (term_from t p) q

@@ -3,8 +3,8 @@ use Rattle.std.proofs.Common.{◌≡◌, ℕ, zero, suc, ◌+◌, ◌-◌, ◌<�
 use Rattle.std.proofs.lemmas.Bool.{cases_Bool, cond-true, cond-false, lt-ltb, leb-true, and_parts}
 use Rattle.std.proofs.lemmas.List.{drop-drop, drop-append-le, take-append-le, length-take, length-take-le, take-take}
 use Rattle.std.specs.Prelude.{unwrap_or, option_map}
-use Rattle.svr_base.specs.declared.entry.Hash.{Hash}
-use Rattle.svr_base.specs.declared.entry.LogEntry.{LogEntry}
+use Rattle.values.specs.declared.entry.Hash.{Hash}
+use Rattle.values.specs.declared.entry.LogEntry.{LogEntry}
 use Rattle.group_quorum.specs.Conf.{Conf}
 use Rattle.replica_model.specs.Path.{Path, Link, chain, end_point, entry_at as model_entry_at, term_at as model_term_at, last_term as model_last_term}
 use Rattle.replica_model.specs.Configs.{conf, conf_index, conf_index_from, older_conf}

@@ -1,10 +1,10 @@
 -- Windows and grafts, run on short logs with a link that is easy to read.
 use Rattle.std.proofs.Common.{◌≡◌, ℕ, ◌+◌, ◌*◌, List, [], ◌∷◌, ◌++◌, refl}
 use Rattle.std.specs.Prelude.{Some, None}
-use Rattle.svr_base.specs.declared.entry.Hash.{Hash}
-use Rattle.svr_base.specs.declared.entry.Point.{Point}
-use Rattle.svr_base.specs.declared.entry.LogEntry.{LogEntry}
-use Rattle.svr_base.specs.declared.entry.Body.TheVariants.{Noop, Members}
+use Rattle.values.specs.declared.entry.Hash.{Hash}
+use Rattle.values.specs.declared.entry.Point.{Point}
+use Rattle.values.specs.declared.entry.LogEntry.{LogEntry}
+use Rattle.values.specs.declared.entry.Body.TheVariants.{Noop, Members}
 use Rattle.group_quorum.specs.Conf.{Conf}
 use Rattle.replica_model.specs.Path.{Path, Link, first_hash}
 use Rattle.replica_log.specs.declared.graft.Graft.TheVariants.{Grafted, Apart, Conflict}

@@ -1,7 +1,7 @@
 -- Entries as they are kept: each with its hash and the index of the newest configuration.
 use Rattle.std.specs.Prelude.{ℕ, ◌+◌, ◌-◌, cond, nat_lt, Option, None, List, [], ◌∷◌, slice_get}
-use Rattle.svr_base.specs.declared.entry.Hash.{Hash}
-use Rattle.svr_base.specs.declared.entry.LogEntry.{LogEntry}
+use Rattle.values.specs.declared.entry.Hash.{Hash}
+use Rattle.values.specs.declared.entry.LogEntry.{LogEntry}
 use Rattle.replica_model.specs.Path.{Path, Link}
 use Rattle.replica_model.specs.Configs.{is_members}
 use Rattle.replica_log.specs.declared.chained.Chained.{Chained}

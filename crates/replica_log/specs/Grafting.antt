@@ -1,7 +1,7 @@
 -- Offered entries against a window: where they first differ, what that means, and the window after them.
 use Rattle.std.specs.Prelude.{◌≡◌, ℕ, ◌≤◌, ◌+◌, ◌-◌, cond, ◌||◌, nat_lt, nat_le, Option, Some, None, List, [], ◌∷◌, ◌++◌, length, drop}
-use Rattle.svr_base.specs.declared.entry.Hash.{Hash}
-use Rattle.svr_base.specs.declared.entry.Point.{Point}
+use Rattle.values.specs.declared.entry.Hash.{Hash}
+use Rattle.values.specs.declared.entry.Point.{Point}
 use Rattle.replica_model.specs.Path.{Path, Link, chain_from}
 use Rattle.replica_model.specs.Graft.{Difference, differing, differs_at, points_from}
 use Rattle.replica_log.specs.declared.graft.Graft.{Graft}

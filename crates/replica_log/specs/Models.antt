@@ -1,15 +1,15 @@
 -- A window stands for the log of a model replica, whose whole path it does not keep.
 use Rattle.std.specs.Prelude.{◌≡◌, ℕ, ◌≤◌, ◌<◌, cond, ◌&&◌, nat_le, Option, Some, None, ◌++◌, length, take, drop}
-use Rattle.svr_base.specs.declared.entry.Point.{Point}
+use Rattle.values.specs.declared.entry.Point.{Point}
 use Rattle.group_quorum.specs.Conf.{Conf}
 use Rattle.replica_model.specs.Path.{Path, Link, point, term_at as model_term_at}
 use Rattle.replica_model.specs.Configs.{conf, conf_index, older_conf}
 use Rattle.replica_model.specs.Replica.{Replica}
-use Rattle.replica_model.specs.Graft.{Offer, Difference, first_difference, points_of, end_of, kept_length, added, refusal_hint}
+use Rattle.replica_model.specs.Graft.{hash_at as model_hash_at, Offer, Difference, first_difference, points_of, end_of, kept_length, added, refusal_hint}
 use Rattle.replica_log.specs.declared.configs.Configs.{Configs}
 use Rattle.replica_log.specs.declared.graft.Graft.{Graft}
 use Rattle.replica_log.specs.declared.graft.Graft.TheVariants.{Grafted, Apart, Conflict}
-use Rattle.replica_log.specs.Window.{Window, Summary, summary_of, IsOrdered, base_index, last_index, term_at, configs_at}
+use Rattle.replica_log.specs.Window.{Window, Summary, summary_of, IsOrdered, base_index, last_index, hash_at, term_at, conf_at, conf_index_at, configs_at}
 
 -- the window keeps of this path what follows the base, and the summary up to it
 pub record KeepsPath (link : Link) (w : Window) (first : Conf) (p : Path) (base promised committed : ℕ) : Type 0 where
@@ -55,11 +55,24 @@ pub record AreConfigs (s : Replica) (i : ℕ) (c : Configs) : Type 0 where
 abbrev pub IndicesAreTheModels : Type 0
 IndicesAreTheModels = (link : Link) (w : Window) → OfEach link w (SameIndices w)
 
+-- so is the hash at each index
+abbrev pub HashesAreTheModels : Type 0
+HashesAreTheModels = (link : Link) (w : Window) → OfEach link w (λ s. (i : ℕ) → hash_at link w i ≡ model_hash_at link s i)
+
+-- the newest configuration of the first i entries, and its index, are the replica's
+pub record SameNewest (w : Window) (s : Replica) (i : ℕ) : Type 0 where
+  pub conf : conf_at w i ≡ conf s.first (take i s.path)
+  pub index : conf_index_at w i ≡ conf_index (take i s.path)
+
+-- they are at each index from the base on
+abbrev pub NewestAreTheModels : Type 0
+NewestAreTheModels = (link : Link) (w : Window) → OfEach link w (λ s. (i : ℕ) → s.base ≤ i → SameNewest w s i)
+
 -- so is the term at each index
 abbrev pub TermsAreTheModels : Type 0
 TermsAreTheModels = (link : Link) (w : Window) → OfEach link w (λ s. (i : ℕ) → term_at w i ≡ kept_by s i (model_term_at s.path i))
 
--- and so are the configurations at each index from the base on
+-- and so are the configurations at each index from the base on, the older where it counts
 abbrev pub ConfigsAreTheModels : Type 0
 ConfigsAreTheModels = (link : Link) (w : Window) → IsOrdered w → OfEach link w (λ s. (i : ℕ) → s.base ≤ i → AreConfigs s i (configs_at w i))
 

@@ -1,10 +1,11 @@
 -- What is kept of a log: the entries above its base, and of the path up to the base what sums it up.
-use Rattle.std.specs.Prelude.{◌≡◌, ℕ, ◌+◌, ◌-◌, ◌≤◌, Bool, ◌&&◌, cond, nat_lt, nat_le, max, Option, Some, None, [], ◌∷◌, ◌++◌, length, take, drop, slice_get}
-use Rattle.svr_base.specs.declared.entry.Body.{Body}
-use Rattle.svr_base.specs.declared.entry.Body.TheVariants.{Noop, Ask, Members}
-use Rattle.svr_base.specs.declared.entry.Hash.{Hash}
-use Rattle.svr_base.specs.declared.entry.LogEntry.{LogEntry}
-use Rattle.svr_base.specs.declared.entry.Point.{Point}
+use Rattle.std.specs.Prelude.{◌≡◌, ℕ, ◌+◌, ◌-◌, ◌≤◌, ◌==◌, Bool, ◌&&◌, cond, nat_lt, nat_le, max, Option, Some, None, [], ◌∷◌, ◌++◌, length, take, drop, slice_get}
+use Rattle.values.specs.declared.entry.Body.{Body}
+use Rattle.values.specs.declared.entry.Body.TheVariants.{Noop, Ask, Members}
+use Rattle.values.specs.declared.entry.Hash.{Hash}
+use Rattle.values.specs.declared.entry.LogEntry.{LogEntry}
+use Rattle.values.specs.declared.entry.Point.{Point}
+use Rattle.values.specs.declared.limits.TheConstants.{TOP}
 use Rattle.group_quorum.specs.Conf.{Conf}
 use Rattle.group_quorum.specs.Voters.{fault_of}
 use Rattle.replica_model.specs.Path.{Path, Link, first_hash, chain_from, end_point, last_term}
@@ -27,6 +28,10 @@ summary_of link first p = record { point = end_point link p; term = last_term p;
 abbrev pub term_from : ℕ → Path → ℕ
 term_from t [] = t
 term_from t (e ∷ p) = term_from e.term p
+
+-- the term at a point: that of its entry, and 0 at index 0, where there is none
+abbrev pub term_of_point : Point → ℕ → ℕ
+term_of_point point term = cond (point.index == 0) 0 term
 
 -- the summary after more entries
 abbrev pub summed : Link → Summary → Path → Summary
@@ -53,11 +58,12 @@ base_index w = w.base.point.index
 abbrev pub last_index : Window → ℕ
 last_index w = w.base.point.index + length w.entries
 
--- base, committed, promised and last index, none above the next
+-- base, committed, promised and last index, none above the next and none above the greatest index there is
 pub record IsOrdered (w : Window) : Type 0 where
   pub committed : base_index w ≤ w.committed
   pub promised : w.committed ≤ w.promised
   pub last : w.promised ≤ last_index w
+  pub top : last_index w ≤ TOP
   pub conf_index : w.base.conf_index ≤ base_index w
 
 -- the kept entries up to an index

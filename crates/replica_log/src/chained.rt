@@ -12,7 +12,7 @@ use group_quorum::{Config, MAX_VOTERS};
 use hash_chain::link_parts;
 use std::alloc::Global;
 use std::collections::VecDeque;
-use svr_base::{Body, ClientId, Hash, LogEntry, Memory, TryCopy};
+use values::{Body, ClientId, Hash, LogEntry, Memory, TryCopy};
 
 /// An entry of a log.
 #[derive(Debug, Drop)]

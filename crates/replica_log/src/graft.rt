@@ -10,7 +10,7 @@ ghost use Rattle.replica_log.specs.Models.{Answers};
 use crate::chained::link;
 use crate::log::Log;
 use replica_model::TOP;
-use svr_base::{Hash, LogEntry, Memory, Point};
+use values::{Hash, LogEntry, Memory, Point};
 
 /// What comes of entries offered after a point.
 #[derive(Clone, Copy, Debug, PartialEq, Eq)]

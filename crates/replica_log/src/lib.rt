@@ -13,7 +13,10 @@ mod log;
 
 pub use configs::Configs;
 pub use graft::Graft;
-pub use laws::{configs_are_the_models, indices_are_the_models, terms_are_the_models};
+pub use laws::{
+    configs_are_the_models, hashes_are_the_models, indices_are_the_models, newest_are_the_models,
+    terms_are_the_models,
+};
 pub use log::Log;
 
 #[cfg(test)]

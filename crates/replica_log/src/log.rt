@@ -1,11 +1,11 @@
 //! The log.
-ghost use Rattle.std.specs.Prelude.{◌≡◌, ℕ, ◌≤◌, ◌<◌, ◌+◌, ◌∷◌, [], ◌++◌, IfOk, OnOk, OnErr, length, max, option_copied};
+ghost use Rattle.std.specs.Prelude.{◌≡◌, ℕ, ◌≤◌, ◌<◌, ◌+◌, ◌∷◌, [], ◌++◌, IfOk, IfSome, OnOk, OnErr, length, max, option_copied};
 ghost use Rattle.std.specs.List.{AllByRecursion};
 ghost use Rattle.replica_model.specs.Path.{end_point, last_term as model_last_term, term_at as model_term_at, entry_at as model_entry_at};
 ghost use Rattle.replica_model.specs.Linked.{sha_link};
 ghost use Rattle.replica_model.specs.Replica.{Replica, begin};
 ghost use Rattle.replica_model.specs.Graft.{hash_at as model_hash_at, matches as model_matches};
-ghost use Rattle.replica_log.specs.Window.{Fits, IsOrdered, base_index, last_index, last_point, last_term_of, hash_at, term_at, term_from, is_kept, entry_at, matches, configs_at, conf_at, conf_index_at, upto, first_window, window_at, pushed, promised_to, committed_to, dropped_below};
+ghost use Rattle.replica_log.specs.Window.{Fits, IsOrdered, base_index, last_index, last_point, last_term_of, term_of_point, hash_at, term_at, term_from, is_kept, entry_at, matches, configs_at, conf_at, conf_index_at, upto, first_window, window_at, pushed, promised_to, committed_to, dropped_below};
 ghost use Rattle.replica_log.specs.Grafting.{point_at};
 ghost use Rattle.replica_log.specs.Chain.{chained_at};
 ghost use Rattle.replica_log.specs.Models.{StandsFor, OfEach, kept_by, IsSummedUp, AreConfigs};
@@ -17,7 +17,7 @@ use replica_model::TOP;
 use std::alloc::Global;
 use std::collections::VecDeque;
 use std::marker::Model;
-use svr_base::{Hash, LogEntry, Memory, Point};
+use values::{Hash, LogEntry, Memory, Point};
 
 /// A replica's log. Contracts see a window: its base and what sums up the path to it, the entries after the base, the
 /// promised and the committed index. The base is at most the committed index, that at most the promised one, and that
@@ -66,17 +66,18 @@ impl Log {
     }
 
     /// The log of a path that is known by its summary alone: its end point, the term of its last entry, and its newest
-    /// configuration with its index. All of it is promised and committed.
+    /// configuration with its index. All of it is promised and committed. At index 0 there is no entry, and so no term.
     pub fn at(alloc: Global, point: Point, last_term: u64, config: Config, conf_index: u64) -> Log
-        requires { conf_index ≤ point.index }
-        ensures window { result ≡ window_at (record { point = point; term = last_term; conf = config; conf_index = conf_index }) }
+        requires conf_index { conf_index ≤ point.index }
+        requires top { point.index ≤ TOP }
+        ensures window { result ≡ window_at (record { point = point; term = term_of_point point last_term; conf = config; conf_index = conf_index }) }
         ensures model { (s : Replica)
             → IsSummedUp sha_link s (record { point = point; term = last_term; conf = config; conf_index = conf_index })
             → StandsFor sha_link result s }
     {
         Log {
             base: point,
-            base_term: last_term,
+            base_term: if point.index == 0 { 0 } else { last_term },
             config,
             conf_index,
             kept: VecDeque::new(alloc),
@@ -121,6 +122,7 @@ impl Log {
     /// The term of the last entry, 0 where there is none.
     pub fn last_term(&self) -> u64
         ensures term { result ≡ last_term_of self.now }
+        ensures zero { last_index self.now ≡ 0 → result ≡ 0 }
         ensures model { OfEach sha_link self.now (λ s. result ≡ model_last_term s.path) }
     {
         self.term_of(self.last_index())
@@ -129,6 +131,7 @@ impl Log {
     /// The term of the entry at an index, 0 at index 0; `None` exactly outside base to last.
     pub fn term_at(&self, index: u64) -> Option<u64>
         ensures term { result ≡ term_at self.now index }
+        ensures zero { index ≡ 0 → IfSome result (λ term. term ≡ 0) }
         ensures model { OfEach sha_link self.now (λ s. result ≡ kept_by s index (model_term_at s.path index)) }
     {
         if self.keeps(index) {
@@ -179,6 +182,7 @@ impl Log {
     /// The hash of the path up to an index; `None` exactly outside base to last.
     pub fn hash_at(&self, index: u64) -> Option<Hash>
         ensures hash { result ≡ hash_at sha_link self.now index }
+        ensures ordered { IsOrdered self.now }
         ensures model { OfEach sha_link self.now (λ s. result ≡ model_hash_at sha_link s index) }
     {
         if self.keeps(index) {
@@ -191,6 +195,7 @@ impl Log {
     /// Whether the hash at the point's index is the point's.
     pub fn matches(&self, point: Point) -> bool
         ensures matches { result ≡ matches sha_link self.now point }
+        ensures ordered { IsOrdered self.now }
         ensures model { OfEach sha_link self.now (λ s. result ≡ model_matches sha_link s point) }
     {
         match self.hash_at(point.index) {
@@ -277,7 +282,7 @@ impl Log {
     pub(crate) fn replace_after(&mut self, index: u64, entries: &[LogEntry]) -> Result<(), Memory>
         requires promised { self.old.promised ≤ index }
         requires last { index ≤ last_index self.old }
-        requires room { index + length entries.now ≤ u64.MAX }
+        requires room { index + length entries.now ≤ TOP }
         requires fit { AllByRecursion Fits entries.now }
         ensures ok { OnOk result (self.new ≡ record self.old { entries = upto self.old index ++ entries.now }) }
         ensures err { OnErr result (self.new ≡ self.old) }
@@ -344,7 +349,8 @@ impl Log {
 
     /// Whether an index is neither below the base nor above the last one.
     fn keeps(&self, index: u64) -> bool
-        ensures { result ≡ is_kept self.now index }
+        ensures kept { result ≡ is_kept self.now index }
+        ensures ordered { IsOrdered self.now }
     {
         self.base.index <= index && index <= self.last_index()
     }
@@ -352,7 +358,8 @@ impl Log {
     fn term_of(&self, index: u64) -> u64
         requires base { base_index self.now ≤ index }
         requires last { index ≤ last_index self.now }
-        ensures { result ≡ term_from self.now.base.term (upto self.now index) }
+        ensures term { result ≡ term_from self.now.base.term (upto self.now index) }
+        ensures zero { index ≡ 0 → result ≡ 0 }
     {
         match self.chained_at(index) {
             Some(chained) => chained.entry.term,

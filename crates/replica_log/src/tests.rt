@@ -5,7 +5,7 @@ use crate::{Configs, Graft, Log};
 use group_quorum::Config;
 use std::alloc::Global;
 use std::test::Fail;
-use svr_base::{Body, Bytes, ClientId, Hash, Ids, LogEntry, Memory, Point};
+use values::{Body, Bytes, ClientId, Hash, Ids, LogEntry, Memory, Point};
 
 // The hash of a configuration at index 1 and of an ask after it, by another implementation of SHA-256.
 const MEMBERS_HASH: Hash = Hash([

@@ -1,4 +1,7 @@
+pub mod RisingIds
 pub mod Paths
 pub mod Greatest
 pub mod Bodies
 mod Worked
+mod Counted
+pub mod Raised

@@ -1,6 +1,6 @@
 -- The chain and the configurations of a path and more entries.
 use Rattle.std.proofs.Common.{◌≡◌, ℕ, ◌+◌, [], ◌∷◌, ◌++◌, length, cond, refl, ap, ◌∙◌, arith}
-use Rattle.svr_base.specs.declared.entry.Hash.{Hash}
+use Rattle.values.specs.declared.entry.Hash.{Hash}
 use Rattle.group_quorum.specs.Conf.{Conf}
 use Rattle.replica_model.specs.Path.{Path, Link, chain_from, chain, first_hash}
 use Rattle.replica_model.specs.Configs.{is_members, changed_by, conf, conf_index_from, conf_index}

@@ -1,12 +1,12 @@
 -- Changes of the members: join, admit, remove and margin, with their refusals in order.
 use Rattle.std.specs.Prelude.{ℕ, ◌+◌, ◌-◌, ◌*◌, Bool, cond, not, ◌||◌, ◌==◌, nat_lt, nat_le, Option, Some, None, List, [], ◌∷◌, length, take}
-use Rattle.svr_base.specs.declared.entry.Body.TheVariants.{Members}
-use Rattle.svr_base.specs.declared.batch.Refusal.{Refusal}
-use Rattle.svr_base.specs.declared.batch.Refusal.TheVariants.{NotLeader, ChangePending, AlreadyVoter, NotVoter, TooFew, TooMany, NotCaughtUp, NoLink, LogFull, SameMargin}
+use Rattle.values.specs.declared.entry.Body.TheVariants.{Members}
+use Rattle.values.specs.declared.batch.Refusal.{Refusal}
+use Rattle.values.specs.declared.batch.Refusal.TheVariants.{NotLeader, ChangePending, AlreadyVoter, NotVoter, TooFew, TooMany, NotCaughtUp, NoLink, LogFull, SameMargin}
 use Rattle.group_quorum.specs.Conf.{Conf}
 use Rattle.group_quorum.specs.Voters.{is_in, insert_rising}
 use Rattle.group_quorum.specs.declared.TheConstants.{MAX_VOTERS}
-use Rattle.svr_base.specs.declared.limits.TheConstants.{TOP}
+use Rattle.values.specs.declared.limits.TheConstants.{TOP}
 use Rattle.replica_model.specs.declared.TheConstants.{MAX_LEARNERS}
 use Rattle.replica_model.specs.Path.{Link}
 use Rattle.replica_model.specs.Configs.{conf_index}

@@ -1,18 +1,18 @@
 -- A client's request, and its answers in their order.
 use Rattle.std.specs.Prelude.{ℕ, ◌+◌, ◌-◌, Bool, cond, ◌||◌, ◌==◌, nat_le, Option, Some, None, Result, Ok, Err, List, [], ◌∷◌, ◌++◌, length}
-use Rattle.svr_base.specs.declared.entry.Hash.{Hash}
-use Rattle.svr_base.specs.declared.entry.Body.TheVariants.{Ask}
-use Rattle.svr_base.specs.declared.ids.ClientId.{ClientId}
-use Rattle.svr_base.specs.declared.message.Request.{Request}
-use Rattle.svr_base.specs.declared.message.Answer.TheVariants.{NotLeader, Busy, Malformed, Invalid, Halted}
-use Rattle.svr_base.specs.declared.message.Part.TheVariants.{Nothing}
+use Rattle.values.specs.declared.entry.Hash.{Hash}
+use Rattle.values.specs.declared.entry.Body.TheVariants.{Ask}
+use Rattle.values.specs.declared.ids.ClientId.{ClientId}
+use Rattle.values.specs.declared.message.Request.{Request}
+use Rattle.values.specs.declared.message.Answer.TheVariants.{NotLeader, Busy, Malformed, Invalid, Halted}
+use Rattle.values.specs.declared.message.Part.TheVariants.{Nothing}
 use Rattle.proto_wire.specs.declared.field.WireFault.{WireFault}
 use Rattle.proto_wire.specs.declared.field.WireFault.TheVariants as wire
 use Rattle.client_msgs.specs.declared.fault.RequestFault.{RequestFault}
 use Rattle.client_msgs.specs.declared.fault.RequestFault.TheVariants as faults
 use Rattle.client_msgs.specs.Reading.{request_of}
 use Rattle.client_msgs.specs.Canonical.{canonical_request}
-use Rattle.svr_base.specs.declared.limits.TheConstants.{TOP}
+use Rattle.values.specs.declared.limits.TheConstants.{TOP}
 use Rattle.replica_model.specs.declared.TheConstants.{MAX_OPEN}
 use Rattle.replica_model.specs.Replica.{Role, Leader, Replica}
 use Rattle.replica_model.specs.Call.{Call, still, answers}

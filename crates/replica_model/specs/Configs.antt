@@ -1,7 +1,7 @@
 -- The configurations of a path: the newest one, its index, and the one before it.
 use Rattle.std.specs.Prelude.{ℕ, ◌+◌, ◌-◌, Bool, true, false, cond, [], ◌∷◌, take}
-use Rattle.svr_base.specs.declared.entry.Body.{Body}
-use Rattle.svr_base.specs.declared.entry.Body.TheVariants.{Noop, Ask, Members}
+use Rattle.values.specs.declared.entry.Body.{Body}
+use Rattle.values.specs.declared.entry.Body.TheVariants.{Noop, Ask, Members}
 use Rattle.group_quorum.specs.Conf.{Conf}
 use Rattle.replica_model.specs.Path.{Path}
 

@@ -1,13 +1,12 @@
 -- The record table of a path: a fold over its entries, and what each place replies.
-use Rattle.std.specs.Prelude.{ℕ, map, Option, Some, None, Result, Ok, Err, All}
-use Rattle.svr_base.specs.declared.ids.ClientId.{ClientId}
-use Rattle.svr_base.specs.declared.entry.Body.{Body}
-use Rattle.svr_base.specs.declared.entry.Body.TheVariants.{Noop, Ask, Members}
-use Rattle.svr_base.specs.declared.message.Request.{Request}
-use Rattle.svr_base.specs.declared.message.Reply.{Reply}
+use Rattle.std.specs.Prelude.{ℕ, map, Option, Some, None, Result, Ok, Err}
+use Rattle.values.specs.declared.ids.ClientId.{ClientId}
+use Rattle.values.specs.declared.entry.Body.{Body}
+use Rattle.values.specs.declared.entry.Body.TheVariants.{Noop, Ask, Members}
+use Rattle.values.specs.declared.message.Request.{Request}
+use Rattle.values.specs.declared.message.Reply.{Reply}
 use Rattle.client_msgs.specs.declared.fault.RequestFault.{RequestFault}
 use Rattle.client_msgs.specs.Reading.{request_of}
-use Rattle.client_msgs.specs.Strict.{IsCanonical}
 use Rattle.record_table.specs.Table.{RecordTable}
 use Rattle.record_table.specs.Places.{ClientAsk, Places, fold_places, reply_at}
 use Rattle.replica_model.specs.Path.{Path}
@@ -34,13 +33,3 @@ fold_of limit p = fold_places limit (places_of p)
 -- the reply that place i of a path gives, where it is an Ask. Places count from 1
 abbrev pub reply_of : ℕ → Path → ℕ → Option Reply
 reply_of limit p i = reply_at limit (places_of p) i
-
--- the request of an Ask is the canonical bytes of a valid request
-abbrev pub IsCanonicalBody : Body → Type 0
-IsCanonicalBody Noop = Unit {0}
-IsCanonicalBody (Ask client number request) = IsCanonical request
-IsCanonicalBody (Members margin voters) = Unit {0}
-
--- the same of each entry
-abbrev pub AllCanonical : Path → Type 0
-AllCanonical p = All (λ e. IsCanonicalBody e.body) p

@@ -1,15 +1,15 @@
 -- An append heard: compared with the log, refused, or grafted onto it.
 use Rattle.std.specs.Prelude.{ℕ, ◌+◌, ◌-◌, Bool, false, cond, ◌&&◌, ◌||◌, ◌==◌, nat_lt, nat_le, min, max, Option, Some, None, List, [], ◌∷◌, ◌++◌, length, take, drop, map, filter, filter_map}
-use Rattle.svr_base.specs.declared.entry.Hash.{Hash}
-use Rattle.svr_base.specs.declared.entry.Point.{Point}
-use Rattle.svr_base.specs.declared.entry.Body.{Body}
-use Rattle.svr_base.specs.declared.entry.Body.TheVariants.{Noop, Ask, Members}
-use Rattle.svr_base.specs.declared.entry.LogEntry.{LogEntry}
-use Rattle.svr_base.specs.declared.batch.Batch.{Batch}
-use Rattle.svr_base.specs.declared.ids.ClientId.{ClientId}
-use Rattle.svr_base.specs.declared.message.Answer.{Answer}
-use Rattle.svr_base.specs.declared.message.Answer.TheVariants.{Undecided}
-use Rattle.svr_base.specs.declared.peer.PeerMsg.TheVariants.{Accepted, Rejected}
+use Rattle.values.specs.declared.entry.Hash.{Hash}
+use Rattle.values.specs.declared.entry.Point.{Point}
+use Rattle.values.specs.declared.entry.Body.{Body}
+use Rattle.values.specs.declared.entry.Body.TheVariants.{Noop, Ask, Members}
+use Rattle.values.specs.declared.entry.LogEntry.{LogEntry}
+use Rattle.values.specs.declared.batch.Batch.{Batch}
+use Rattle.values.specs.declared.ids.ClientId.{ClientId}
+use Rattle.values.specs.declared.message.Answer.{Answer}
+use Rattle.values.specs.declared.message.Answer.TheVariants.{Undecided}
+use Rattle.values.specs.declared.peer.PeerMsg.TheVariants.{Accepted, Rejected}
 use Rattle.replica_model.specs.Path.{Path, Link, chain, point, same_hash}
 use Rattle.replica_model.specs.Message.{plain}
 use Rattle.replica_model.specs.Replica.{Ticket, Follower, Replica}

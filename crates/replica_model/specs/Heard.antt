@@ -1,6 +1,6 @@
 -- What a leader hears of its appends.
 use Rattle.std.specs.Prelude.{ℕ, ◌+◌, cond, ◌&&◌, ◌||◌, ◌==◌, nat_lt, nat_le, min, max, [], ◌∷◌, length}
-use Rattle.svr_base.specs.declared.entry.Point.{Point}
+use Rattle.values.specs.declared.entry.Point.{Point}
 use Rattle.replica_model.specs.declared.Progress.{Progress}
 use Rattle.replica_model.specs.Path.{Link}
 use Rattle.replica_model.specs.Keyed.{without}

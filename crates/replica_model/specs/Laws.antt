@@ -1,15 +1,18 @@
 -- What the definitions over paths come to, entry by entry.
-use Rattle.std.specs.Prelude.{◌≡◌, ◌≢◌, ℕ, ◌+◌, ◌<◌, ◌≤◌, ◌^◌, Bool, false, cond, [], ◌∷◌, ◌++◌, length, IsTrue, All}
-use Rattle.svr_base.specs.declared.entry.Body.{Body}
-use Rattle.svr_base.specs.declared.entry.Body.TheVariants.{Noop, Ask, Members}
-use Rattle.svr_base.specs.declared.entry.LogEntry.{LogEntry}
+use Rattle.std.specs.Prelude.{◌≡◌, ◌≢◌, ℕ, ◌+◌, ◌<◌, ◌≤◌, ◌^◌, Bool, false, cond, ◌&&◌, ◌||◌, [], ◌∷◌, ◌++◌, length, IsTrue, All}
+use Rattle.values.specs.declared.entry.Body.{Body}
+use Rattle.values.specs.declared.entry.Body.TheVariants.{Noop, Ask, Members}
+use Rattle.values.specs.declared.entry.LogEntry.{LogEntry}
 use Rattle.group_quorum.specs.Conf.{Conf}
+use Rattle.group_quorum.specs.Voters.{is_in}
 use Rattle.record_table.specs.Places.{apply_place}
 use Rattle.replica_model.specs.Path.{Path, Link, chain}
 use Rattle.replica_model.specs.Linked.{kind_of, body_bytes}
-use Rattle.replica_model.specs.Configs.{is_members, changed_by, conf, conf_index}
+use Rattle.replica_model.specs.Configs.{is_members, changed_by, conf, conf_index, older_conf}
 use Rattle.replica_model.specs.Enough.{greatest_upto}
 use Rattle.replica_model.specs.Folds.{place_of, fold_of}
+use Rattle.replica_model.specs.Replica.{Replica}
+use Rattle.replica_model.specs.Peers.{newest, is_pending, voters_counted}
 
 -- the hash of a path and one more entry is the link of that entry to the path's hash
 abbrev pub ChainFollows : Type 0
@@ -48,3 +51,8 @@ IsInRange (Members margin voters) = All (λ v. v < 2 ^ 32) voters
 -- different bodies have different kinds or different bytes
 abbrev pub BytesTellBodies : Type 0
 BytesTellBodies = (a b : Body) → IsInRange a → IsInRange b → kind_of a ≡ kind_of b → body_bytes a ≡ body_bytes b → a ≡ b
+
+-- an id counts where it is a voter of the newest configuration or, while that one is above the committed index, of the
+-- one before it
+abbrev pub VotersCounted : Type 0
+VotersCounted = (s : Replica) (v : ℕ) → is_in (voters_counted s) v ≡ (is_in (newest s).voters v || (is_pending s && is_in (older_conf s.first s.path).voters v))

@@ -20,3 +20,4 @@ pub mod Changes
 pub mod Ticks
 pub mod Step
 pub mod Laws
+pub mod Raised

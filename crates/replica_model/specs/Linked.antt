@@ -3,10 +3,10 @@ use Rattle.std.specs.Prelude.{ℕ, List, [], ◌∷◌, ◌++◌, length}
 use Rattle.std.specs.List.{flat_map}
 use Rattle.byteorder.specs.Endian.{big_bytes}
 use Rattle.sha2.specs.Sha256.{sha256}
-use Rattle.svr_base.specs.declared.entry.Hash.{Hash}
-use Rattle.svr_base.specs.declared.entry.Body.{Body}
-use Rattle.svr_base.specs.declared.entry.Body.TheVariants.{Noop, Ask, Members}
-use Rattle.svr_base.specs.declared.entry.LogEntry.{LogEntry}
+use Rattle.values.specs.declared.entry.Hash.{Hash}
+use Rattle.values.specs.declared.entry.Body.{Body}
+use Rattle.values.specs.declared.entry.Body.TheVariants.{Noop, Ask, Members}
+use Rattle.values.specs.declared.entry.LogEntry.{LogEntry}
 use Rattle.hash_chain.specs.Links.{LinkInput, bytes_of}
 use Rattle.replica_model.specs.Path.{Link}
 

@@ -1,5 +1,5 @@
 -- A message between replicas, and the parts of a table.
-use Rattle.svr_base.specs.declared.peer.PeerMsg.{PeerMsg}
+use Rattle.values.specs.declared.peer.PeerMsg.{PeerMsg}
 use Rattle.replica_model.specs.Replica.{Named, nothing_named}
 
 -- a message as it is sent. A table part also names the path whose table it is a part of

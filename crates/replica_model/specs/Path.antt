@@ -1,8 +1,8 @@
 -- A replica's log as the whole list of its entries, the chain of hashes over it, and its points.
 use Rattle.std.specs.Prelude.{ℕ, zero, suc, ◌+◌, Bool, ◌&&◌, ◌==◌, bytes_eq, Option, None, List, [], ◌∷◌, length, take, replicate, slice_get, option_map, unwrap_or}
-use Rattle.svr_base.specs.declared.entry.Hash.{Hash}
-use Rattle.svr_base.specs.declared.entry.Point.{Point}
-use Rattle.svr_base.specs.declared.entry.LogEntry.{LogEntry}
+use Rattle.values.specs.declared.entry.Hash.{Hash}
+use Rattle.values.specs.declared.entry.Point.{Point}
+use Rattle.values.specs.declared.entry.LogEntry.{LogEntry}
 
 -- the entries of a log, the first at index 1
 abbrev pub Path : Type 0

@@ -1,10 +1,10 @@
 -- The promised and the committed index: to where they rise, and what comes of it.
 use Rattle.std.specs.Prelude.{ℕ, ◌+◌, Bool, cond, not, ◌&&◌, ◌==◌, nat_lt, nat_le, max, Option, List, [], ◌∷◌, ◌++◌, length, take, drop, filter, filter_map, option_map}
-use Rattle.svr_base.specs.declared.ids.ClientId.{ClientId}
-use Rattle.svr_base.specs.declared.entry.Body.{Body}
-use Rattle.svr_base.specs.declared.entry.LogEntry.{LogEntry}
-use Rattle.svr_base.specs.declared.message.Answer.{Answer}
-use Rattle.svr_base.specs.declared.message.Answer.TheVariants.{Outcome}
+use Rattle.values.specs.declared.ids.ClientId.{ClientId}
+use Rattle.values.specs.declared.entry.Body.{Body}
+use Rattle.values.specs.declared.entry.LogEntry.{LogEntry}
+use Rattle.values.specs.declared.message.Answer.{Answer}
+use Rattle.values.specs.declared.message.Answer.TheVariants.{Outcome}
 use Rattle.replica_model.specs.Path.{Path, term_at}
 use Rattle.replica_model.specs.Enough.{is_enough, greatest_upto}
 use Rattle.replica_model.specs.Folds.{reply_of}

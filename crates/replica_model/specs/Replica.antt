@@ -1,8 +1,8 @@
 -- The state of a replica, with its whole path.
 use Rattle.std.specs.Prelude.{ℕ, Option, None, List, []}
-use Rattle.svr_base.specs.declared.entry.Hash.{Hash}
-use Rattle.svr_base.specs.declared.ids.ClientId.{ClientId}
-use Rattle.svr_base.specs.declared.message.Request.{Request}
+use Rattle.values.specs.declared.entry.Hash.{Hash}
+use Rattle.values.specs.declared.ids.ClientId.{ClientId}
+use Rattle.values.specs.declared.message.Request.{Request}
 use Rattle.group_quorum.specs.Conf.{Conf}
 use Rattle.replica_model.specs.declared.Progress.{Progress}
 use Rattle.replica_model.specs.Path.{Path}
@@ -40,6 +40,7 @@ pub record Leading : Type 0 where
 pub data Role : Type 0 where
   Learner : (taking : Taking) → Role
   Follower : Role
+  -- the ids whose votes it has, in rising order
   Candidate : (votes : List ℕ) → Role
   Leader : (leading : Leading) → Role
 

@@ -1,10 +1,10 @@
 -- The end of a call: appends, a leader that stops, and the base.
 use Rattle.std.specs.Prelude.{ℕ, ◌+◌, ◌-◌, Bool, cond, not, ◌&&◌, nat_lt, nat_le, max, Option, Some, None, List, [], ◌∷◌, length, take, drop, map}
-use Rattle.svr_base.specs.declared.entry.Hash.{Hash}
-use Rattle.svr_base.specs.declared.peer.PeerMsg.{PeerMsg}
-use Rattle.svr_base.specs.declared.peer.PeerMsg.TheVariants.{Append}
+use Rattle.values.specs.declared.entry.Hash.{Hash}
+use Rattle.values.specs.declared.peer.PeerMsg.{PeerMsg}
+use Rattle.values.specs.declared.peer.PeerMsg.TheVariants.{Append}
 use Rattle.replica_model.specs.declared.Progress.{Progress}
-use Rattle.svr_base.specs.declared.limits.TheConstants.{MAX_ENTRIES}
+use Rattle.values.specs.declared.limits.TheConstants.{MAX_ENTRIES}
 use Rattle.replica_model.specs.declared.TheConstants.{KEPT_BELOW}
 use Rattle.replica_model.specs.Path.{Path, Link, point}
 use Rattle.replica_model.specs.Configs.{conf_index}

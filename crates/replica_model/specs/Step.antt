@@ -1,14 +1,15 @@
 -- One call of a replica.
 use Rattle.std.specs.Prelude.{ℕ, false, cond, nat_lt, Option, Some, None}
-use Rattle.svr_base.specs.declared.entry.Hash.{Hash}
-use Rattle.svr_base.specs.declared.batch.Refusal.TheVariants.{NotLeader}
-use Rattle.svr_base.specs.declared.peer.PeerMsg.{PeerMsg}
-use Rattle.svr_base.specs.declared.peer.PeerMsg.TheVariants.{AskVote, Vote, Append, Accepted, Rejected, Part, PartTaken}
+use Rattle.values.specs.declared.entry.Hash.{Hash}
+use Rattle.values.specs.declared.batch.Refusal.TheVariants.{NotLeader}
+use Rattle.values.specs.declared.peer.PeerMsg.{PeerMsg}
+use Rattle.values.specs.declared.peer.PeerMsg.TheVariants.{AskVote, Vote, Append, Accepted, Rejected, Part, PartTaken}
 use Rattle.replica_model.specs.Path.{Link}
 use Rattle.replica_model.specs.Message.{Message}
 use Rattle.replica_model.specs.Replica.{Role, Learner, Replica}
 use Rattle.replica_model.specs.Call.{Input, Tick, Peer, Client, Join, Admit, Remove, Margin, Call, still, says, refuses}
-use Rattle.replica_model.specs.Term.{term_of, higher_term}
+use Rattle.values.specs.Terms.{term_of}
+use Rattle.replica_model.specs.Term.{higher_term}
 use Rattle.replica_model.specs.Votes.{vote_asked, vote_heard}
 use Rattle.replica_model.specs.Graft.{append_heard, stale_append}
 use Rattle.replica_model.specs.Heard.{accepted_heard, rejected_heard}

@@ -1,12 +1,12 @@
 -- The transfer of a table: its parts, who takes them, and who sends them.
 use Rattle.std.specs.Prelude.{◌≡◌, ℕ, ◌+◌, ◌-◌, ◌*◌, ◌/◌, ◌<◌, Bool, cond, ◌&&◌, ◌==◌, nat_lt, max, Option, Some, None, List, length, take, drop}
-use Rattle.svr_base.specs.declared.entry.Point.{Point}
-use Rattle.svr_base.specs.declared.row.Row.{Row}
-use Rattle.svr_base.specs.declared.peer.TablePart.{TablePart}
-use Rattle.svr_base.specs.declared.peer.PeerMsg.{PeerMsg}
-use Rattle.svr_base.specs.declared.peer.PeerMsg.TheVariants.{Rejected, Part, PartTaken}
+use Rattle.values.specs.declared.entry.Point.{Point}
+use Rattle.values.specs.declared.row.Row.{Row}
+use Rattle.values.specs.declared.peer.TablePart.{TablePart}
+use Rattle.values.specs.declared.peer.PeerMsg.{PeerMsg}
+use Rattle.values.specs.declared.peer.PeerMsg.TheVariants.{Rejected, Part, PartTaken}
 use Rattle.group_quorum.specs.Voters.{is_in}
-use Rattle.svr_base.specs.declared.limits.TheConstants.{ROWS_PER_PART}
+use Rattle.values.specs.declared.limits.TheConstants.{ROWS_PER_PART}
 use Rattle.replica_model.specs.Path.{Path, Link, end_point, same_point, last_term}
 use Rattle.replica_model.specs.Configs.{conf, conf_index}
 use Rattle.replica_model.specs.Folds.{fold_of}

@@ -1,18 +1,6 @@
--- The term of a message, and what a higher one does.
+-- What a higher term does.
 use Rattle.std.specs.Prelude.{ℕ, cond, nat_lt, max}
-use Rattle.svr_base.specs.declared.peer.PeerMsg.{PeerMsg}
-use Rattle.svr_base.specs.declared.peer.PeerMsg.TheVariants.{AskVote, Vote, Append, Accepted, Rejected, Part, PartTaken}
 use Rattle.replica_model.specs.Replica.{Role, Learner, Follower, Candidate, Leader, Replica}
-
--- the term that a message carries
-abbrev pub term_of : PeerMsg → ℕ
-term_of (AskVote term last_index last_term) = term
-term_of (Vote term granted) = term
-term_of (Append term prev entries promise commit) = term
-term_of (Accepted term end promised) = term
-term_of (Rejected term asked hint) = term
-term_of (Part term part) = term
-term_of (PartTaken term point next) = term
 
 -- who holds a log follows. A leader's learners and sendings end
 abbrev pub followed : Role → Role

@@ -1,14 +1,14 @@
 -- Elections: a replica stands, is asked for its vote, and hears votes.
-use Rattle.std.specs.Prelude.{ℕ, ◌+◌, Bool, true, false, cond, not, ◌&&◌, ◌||◌, ◌==◌, nat_lt, nat_le, Some, List, [], ◌∷◌, length, map}
-use Rattle.svr_base.specs.declared.entry.Body.TheVariants.{Noop}
-use Rattle.svr_base.specs.declared.peer.PeerMsg.TheVariants.{AskVote, Vote}
+use Rattle.std.specs.Prelude.{ℕ, ◌+◌, Bool, true, false, cond, not, ◌&&◌, ◌||◌, ◌==◌, nat_lt, nat_le, Some, List, [], ◌∷◌, length, map, filter}
+use Rattle.values.specs.declared.entry.Body.TheVariants.{Noop}
+use Rattle.values.specs.declared.peer.PeerMsg.TheVariants.{AskVote, Vote}
 use Rattle.group_quorum.specs.Voters.{is_in}
-use Rattle.svr_base.specs.declared.limits.TheConstants.{TOP}
+use Rattle.values.specs.declared.limits.TheConstants.{TOP}
 use Rattle.replica_model.specs.Path.{Path, last_term}
 use Rattle.replica_model.specs.Enough.{met_by_both}
 use Rattle.replica_model.specs.Message.{plain}
 use Rattle.replica_model.specs.Replica.{Role, Candidate, Leading, Replica}
-use Rattle.replica_model.specs.Peers.{with_id, others, is_voter, voters_counted, leads_with}
+use Rattle.replica_model.specs.Peers.{others, is_voter, voters_counted, leads_with}
 use Rattle.replica_model.specs.Call.{Call, still, says, empty_batch}
 use Rattle.replica_model.specs.Raise.{pushed, raise_and_send}
 
@@ -70,7 +70,12 @@ vote_asked s from last_index last_term =
 abbrev pub counted : Replica → List ℕ → Call
 counted s votes = cond (is_elected s votes) (win (record s { role = Candidate votes })) (still (record s { role = Candidate votes }))
 
+-- the votes with that of one more: of the voters that count those that are among them or vote now. So the vote of any
+-- other id adds nothing
+abbrev pub with_vote : Replica → List ℕ → ℕ → List ℕ
+with_vote s votes from = filter (λ v. v == from || is_in votes v) (voters_counted s)
+
 -- vote heard, of the replica's own term: a candidate counts a granted one, every other does nothing
 abbrev pub vote_heard : Replica → Role → ℕ → Bool → Call
-vote_heard s (Candidate votes) from granted = cond granted (counted s (with_id from votes)) (still s)
+vote_heard s (Candidate votes) from granted = cond granted (counted s (with_vote s votes from)) (still s)
 vote_heard s _ from granted = still s

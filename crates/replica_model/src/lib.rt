@@ -3,9 +3,10 @@
 //! The definitions stand in `specs/`. Here are only the numbers and the plain data that code shares with them.
 #![tactic(auto)]
 
-ghost use Rattle.replica_model.specs.Laws.{ChainFollows, ConfFollows, GreatestIsGreatest, FoldFollows, BytesTellBodies};
+ghost use Rattle.replica_model.specs.Laws.{ChainFollows, ConfFollows, GreatestIsGreatest, FoldFollows, BytesTellBodies, VotersCounted};
+ghost use Rattle.replica_model.specs.Raised.{StepsRaiseToTheGreatest};
 
-pub use svr_base::{MAX_ENTRIES, ROWS_PER_PART, TOP};
+pub use values::{MAX_ENTRIES, ROWS_PER_PART, TOP};
 
 /// The entries above the committed index at which a leader is busy.
 pub const MAX_OPEN: u64 = 1_024;
@@ -48,4 +49,16 @@ pub fn fold_follows()
 /// The law that different bodies have different kinds or different bytes.
 pub fn bytes_tell_bodies()
     ensures { BytesTellBodies }
+{}
+
+/// The law that an id is among the voters that count exactly where it is a voter of the newest configuration or, while
+/// that one is above the committed index, of the one before it.
+pub fn voters_counted_are()
+    ensures { VotersCounted }
+{}
+
+/// The law that in each call a leader raises its promised and its committed index to the greatest that may be, with the
+/// outcomes that this brings, or keeps those that it had.
+pub fn steps_raise_to_the_greatest()
+    ensures { StepsRaiseToTheGreatest }
 {}

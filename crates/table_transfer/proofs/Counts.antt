@@ -1,6 +1,6 @@
 -- How many parts a table has.
 use Rattle.std.proofs.Common.{◌*◌, ◌≤◌, List, length, arith}
-use Rattle.svr_base.specs.declared.row.Row.{Row}
+use Rattle.values.specs.declared.row.Row.{Row}
 use Rattle.replica_model.specs.Tables.{parts_of}
 
 -- the rows fit into the parts

@@ -4,8 +4,8 @@ use Rattle.std.specs.Prelude.{Option, Some, None, ◌==◌, fold}
 use Rattle.std.proofs.lemmas.Bool.{eqb-true, eqb-false}
 use Rattle.std.proofs.lemmas.List.{take_all}
 use Rattle.std.proofs.Math.Seq.{take-add}
-use Rattle.svr_base.specs.declared.row.Row.{Row}
-use Rattle.svr_base.specs.declared.peer.TablePart.{TablePart}
+use Rattle.values.specs.declared.row.Row.{Row}
+use Rattle.values.specs.declared.peer.TablePart.{TablePart}
 use Rattle.record_table.specs.Table.{empty_table, row_added}
 use Rattle.replica_model.specs.Path.{Link, Path, same_point}
 use Rattle.replica_model.specs.Folds.{fold_of}

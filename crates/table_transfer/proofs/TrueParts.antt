@@ -1,7 +1,7 @@
 -- The outstanding part of a path's table is a true part of it.
 use Rattle.std.proofs.Common.{◌≡◌, ℕ, ◌<◌, ◌≤◌, ◌*◌, List, length, take, drop, arith, ap, ◌∙◌}
 use Rattle.std.proofs.lemmas.List.{length-take}
-use Rattle.svr_base.specs.declared.row.Row.{Row}
+use Rattle.values.specs.declared.row.Row.{Row}
 use Rattle.std.proofs.lemmas.List.Elements.{All-take, All-drop}
 use Rattle.record_table.specs.Valid.{IsSound, IsValidRow}
 use Rattle.table_transfer.specs.TakenParts.{IsTakable}

@@ -1,7 +1,7 @@
 -- A table that is being sent.
 use Rattle.std.specs.Prelude.{◌≡◌, ℕ, ◌&&◌, ◌==◌, nat_lt, cond}
-use Rattle.svr_base.specs.declared.entry.Point.{Point}
-use Rattle.svr_base.specs.declared.peer.TablePart.{TablePart}
+use Rattle.values.specs.declared.entry.Point.{Point}
+use Rattle.values.specs.declared.peer.TablePart.{TablePart}
 use Rattle.group_quorum.specs.Conf.{Conf}
 use Rattle.record_table.specs.Table.{RecordTable}
 use Rattle.replica_model.specs.Path.{Link, end_point, same_point, last_term}

@@ -1,8 +1,8 @@
 -- The parts of a path's table that were taken.
 use Rattle.std.specs.Prelude.{◌≡◌, ◌+◌, ◌*◌, ◌<◌, true, false, ◌==◌, List, [], take, Option, Some, None, IfSome, IsTrue}
-use Rattle.svr_base.specs.declared.row.Row.{Row}
-use Rattle.svr_base.specs.declared.peer.TablePart.{TablePart}
-use Rattle.svr_base.specs.declared.limits.TheConstants.{ROWS_PER_PART}
+use Rattle.values.specs.declared.row.Row.{Row}
+use Rattle.values.specs.declared.peer.TablePart.{TablePart}
+use Rattle.values.specs.declared.limits.TheConstants.{ROWS_PER_PART}
 use Rattle.replica_model.specs.Path.{Link, same_point}
 use Rattle.replica_model.specs.Folds.{fold_of}
 use Rattle.replica_model.specs.Replica.{Named, Taking}

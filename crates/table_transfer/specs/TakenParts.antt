@@ -1,9 +1,9 @@
 -- The parts of a table that were taken, as values.
 use Rattle.std.specs.Prelude.{ℕ, ◌+◌, ◌<◌, ◌≤◌, Bool, ◌==◌, cond, List, [], ◌++◌, fold, Option, Some, None, All}
-use Rattle.svr_base.specs.declared.entry.Point.{Point}
-use Rattle.svr_base.specs.declared.row.Row.{Row}
-use Rattle.svr_base.specs.declared.peer.TablePart.{TablePart}
-use Rattle.record_table.specs.declared.store.TheConstants.{MOST_ROWS}
+use Rattle.values.specs.declared.entry.Point.{Point}
+use Rattle.values.specs.declared.row.Row.{Row}
+use Rattle.values.specs.declared.peer.TablePart.{TablePart}
+use Rattle.values.specs.declared.limits.TheConstants.{MOST_ROWS}
 use Rattle.record_table.specs.Table.{RecordTable, empty_table, row_added}
 use Rattle.record_table.specs.Valid.{IsValidRow}
 use Rattle.replica_model.specs.Path.{first_hash, same_point}

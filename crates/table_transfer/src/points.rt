@@ -5,7 +5,7 @@ ghost use Rattle.replica_model.specs.Path.{same_point};
 
 use group_quorum::Config;
 use std::alloc::Global;
-use svr_base::{Ids, Memory, Point};
+use values::{Ids, Memory, Point};
 
 /// Whether the points are the same.
 pub fn same_point(a: &Point, b: &Point) -> bool

@@ -2,7 +2,7 @@
 ghost use Rattle.std.specs.Prelude.{◌≡◌, ◌≤◌, length, Ok, IfOk};
 ghost use Rattle.group_quorum.specs.Voters.{conf_of};
 ghost use Rattle.record_table.specs.Valid.{IsSound};
-ghost use Rattle.svr_base.specs.declared.limits.TheConstants.{ROWS_PER_PART};
+ghost use Rattle.values.specs.declared.limits.TheConstants.{MAX_PARTS, ROWS_PER_PART};
 ghost use Rattle.replica_model.specs.Path.{Link};
 ghost use Rattle.replica_model.specs.Replica.{Named};
 ghost use Rattle.replica_model.specs.Tables.{parts_of, IsTruePart};
@@ -16,7 +16,7 @@ use record_table::Table;
 use replica_model::ROWS_PER_PART;
 use std::alloc::Global;
 use std::marker::Model;
-use svr_base::{Memory, Point, TablePart};
+use values::{Memory, Point, TablePart};
 
 /// A table that is being sent to one learner, with the number of the part that is outstanding.
 #[derive(Debug, Drop)]
@@ -90,7 +90,7 @@ impl Sending {
         ensures of_path { (link : Link) (names : Named) → SendsTableOf link self.now names
             → IfOk result (λ part. IsTruePart link part names) }
         ensures takable { IfOk result IsTakable }
-        ensures sized { IfOk result (λ part. (part.parts ≤ 625) × (length part.rows ≤ ROWS_PER_PART)) }
+        ensures sized { IfOk result (λ part. (part.parts ≤ MAX_PARTS) × (length part.rows ≤ ROWS_PER_PART)) }
         ensures members { IfOk result (λ part. conf_of part.margin part.voters ≡ Ok self.now.conf) }
     {
         // what the part says of a path's table rests on this law
@@ -149,7 +149,7 @@ impl Sending {
     /// How many parts the table has. Rows that fill no part whole make the last one.
     fn parts(&self) -> u32
         ensures parts { result ≡ parts_of self.now.table.rows }
-        ensures few { result ≤ 625 }
+        ensures few { result ≤ MAX_PARTS }
         ensures sound { IsSound self.now.table }
     {
         ((self.table.count() + (ROWS_PER_PART - 1)) / ROWS_PER_PART).max(1)

@@ -1,6 +1,6 @@
 //! The parts of a table that were taken.
 ghost use Rattle.std.specs.Prelude.{◌≡◌, ◌+◌, ◌≤◌, ◌++◌, None, Some, fold, IfOk, OnOk, OnErr, All};
-ghost use Rattle.record_table.specs.declared.store.TheConstants.{MOST_ROWS};
+ghost use Rattle.values.specs.declared.limits.TheConstants.{MOST_ROWS};
 ghost use Rattle.record_table.specs.Table.{empty_table, row_added};
 ghost use Rattle.record_table.specs.Valid.{IsValidRow};
 ghost use Rattle.replica_model.specs.Path.{Link};
@@ -14,7 +14,7 @@ use crate::points::same_point;
 use record_table::Table;
 use std::alloc::Global;
 use std::marker::Model;
-use svr_base::{Hash, Memory, Point, Row, TablePart, TryCopy};
+use values::{Hash, Memory, Point, Row, TablePart, TryCopy};
 
 /// The parts of one table that a learner has taken so far, or none.
 #[derive(Debug, Drop)]
@@ -47,7 +47,7 @@ pub enum TakePart {
 
 impl Model for Parts {
     ghost use Rattle.std.specs.Prelude.{◌≤◌, All};
-    ghost use Rattle.record_table.specs.declared.store.TheConstants.{MOST_ROWS};
+    ghost use Rattle.values.specs.declared.limits.TheConstants.{MOST_ROWS};
     ghost use Rattle.record_table.specs.Valid.{IsValidRow};
     ghost use Rattle.table_transfer.specs.TakenParts.{TakenParts};
 

@@ -5,7 +5,7 @@ use group_quorum::Config;
 use record_table::Table;
 use std::alloc::Global;
 use std::test::Fail;
-use svr_base::{ClientId, Hash, Memory, Point, Row};
+use values::{ClientId, Hash, Memory, Point, Row};
 
 const POINT: Point = Point {
     index: 7,

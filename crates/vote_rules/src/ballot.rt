@@ -1,13 +1,13 @@
 //! A replica's vote in its term.
 ghost use Rattle.std.specs.Prelude.{◌≡◌, ◌≢◌, ◌+◌, ◌<◌, ◌&&◌, if◌then◌else◌};
-ghost use Rattle.svr_base.specs.declared.peer.PeerMsg.TheVariants.{Vote};
-ghost use Rattle.svr_base.specs.declared.limits.TheConstants.{TOP};
+ghost use Rattle.values.specs.declared.peer.PeerMsg.TheVariants.{Vote};
+ghost use Rattle.values.specs.declared.limits.TheConstants.{TOP};
 ghost use Rattle.replica_model.specs.Replica.{Replica};
 ghost use Rattle.replica_model.specs.Call.{says};
 ghost use Rattle.replica_model.specs.Votes.{vote_asked};
 ghost use Rattle.vote_rules.specs.Ballots.{is_free, is_as_new, HasBallot};
 
-use svr_base::ReplicaId;
+use values::ReplicaId;
 
 /// A term, and the id that has the replica's vote in it, or 0.
 #[derive(Clone, Copy, Debug, PartialEq, Eq)]

@@ -34,11 +34,13 @@ fn a_change_needs_both_configurations(rt: HostRuntime) -> Result<(), Fail> {
         older: Config::new(&[1, 5, 6], 0)?,
     };
     let mut votes = Votes::new(1);
+    assert!(rt; !votes.win(&configs, 6));
     assert!(rt; !votes.count_vote(2, &configs, 6));
     assert!(rt; !votes.count_vote(9, &configs, 6));
     assert!(rt; !votes.count_vote(4, &configs, 6));
     let mut committed = votes;
     assert!(rt; committed.count_vote(4, &configs, 7));
     assert!(rt; votes.count_vote(6, &configs, 6));
+    assert!(rt; votes.win(&configs, 6));
     Ok(())
 }

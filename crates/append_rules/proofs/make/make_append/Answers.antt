@@ -10,4 +10,5 @@ overflow_add-progress c =
     subst (λ p. p.index < c.args.progress.now.next) c.base.ensures.base c.if-progress-base.false in
     let within = copied_within c.args.log.now c.args.progress.now.next base c.requires.next.1 in
     let count : c.len.result ≡ length (entries_at c.args.log.now c.args.progress.now.next) = c.len.ensures ∙ ap length c.in_ok-entries.ensures in
-    omega (arith, within, count, c.requires.last)
+    let top = c.base.ensures.ordered.top in
+    omega (arith, within, count, top)

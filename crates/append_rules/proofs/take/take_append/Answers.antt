@@ -1,5 +1,5 @@
 use Rattle.std.proofs.Common.{◌≡◌, min, max, None, Some, sym, ap, subst, ◌∙◌}
-use Rattle.svr_base.specs.declared.peer.PeerMsg.TheVariants.{Accepted}
+use Rattle.values.specs.declared.peer.PeerMsg.TheVariants.{Accepted}
 use Rattle.replica_model.specs.Linked.{sha_link}
 use Rattle.replica_model.specs.Replica.{Replica}
 use Rattle.replica_model.specs.Graft.{end_of}

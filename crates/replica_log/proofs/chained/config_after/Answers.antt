@@ -1,6 +1,6 @@
 use Rattle.std.proofs.Common.{◌≡◌, ℕ, List, None, Result, Ok, IfOk, sym, ap, ◌∙◌, subst}
 use Rattle.std.specs.List.Sorted.{IsStrictlyIncreasing}
-use Rattle.svr_base.proofs.RisingLists.{increasing_from_rising}
+use Rattle.values.proofs.RisingLists.{increasing_from_rising}
 use Rattle.group_quorum.specs.Conf.{Conf}
 use Rattle.group_quorum.specs.Voters.{fault_of, conf_of, conf_or, rising}
 use Rattle.group_quorum.specs.declared.ConfigFault.{ConfigFault}

@@ -1,7 +1,7 @@
 use Rattle.std.proofs.Common.{subst, sym}
 use Rattle.std.specs.Option.{SomeIff}
-use Rattle.svr_base.specs.Rising.{Rising}
-use Rattle.svr_base.proofs.RisingLists.{rising_from_increasing}
+use Rattle.values.specs.Rising.{Rising}
+use Rattle.values.proofs.RisingLists.{rising_from_increasing}
 use Rattle.table_transfer.proofs.points.voters_of.Goals as goal
 
 -- a configuration's voters rise

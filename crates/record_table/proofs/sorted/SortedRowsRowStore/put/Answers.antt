@@ -1,7 +1,7 @@
 use Rattle.std.proofs.Common.{◌≡◌, ◌<◌, ◌⊎◌, [], ◌∷◌, ◌++◌, length, sym, ap, subst, ◌∙◌}
 use Rattle.std.specs.Prelude.{IsSome, slice_set}
 use Rattle.std.specs.List.{concat}
-use Rattle.record_table.specs.declared.store.TheConstants.{MOST_ROWS}
+use Rattle.values.specs.declared.limits.TheConstants.{MOST_ROWS}
 use Rattle.record_table.specs.Table.{put_row, row_of}
 use Rattle.record_table.specs.Slots.{rows_in, IsSorted}
 use Rattle.record_table.specs.Numbered.{numbers_in, IsSlotOf, IsBetween}

@@ -1,7 +1,7 @@
 use Rattle.std.proofs.Common.{◌≡◌, ℕ, ◌<◌, false, List, length, subst, arith}
 use Rattle.std.specs.Prelude.{None}
-use Rattle.svr_base.specs.declared.entry.Hash.{Hash}
-use Rattle.svr_base.specs.declared.message.Request.TheVariants.{Backup}
+use Rattle.values.specs.declared.entry.Hash.{Hash}
+use Rattle.values.specs.declared.message.Request.TheVariants.{Backup}
 use Rattle.record_table.specs.declared.change.Change.TheVariants.{Keep}
 use Rattle.record_table.specs.Changes.{IsOutcome}
 use Rattle.record_table.proofs.Sound.{sound_new, backs_up}

@@ -1,4 +1,4 @@
-use Rattle.std.proofs.Common.{◌≡◌, ◌+◌, ◌<◌, ◌^◌, List, length, map, sym, ap, ◌∙◌, subst, arith}
+use Rattle.std.proofs.Common.{◌≡◌, List, length, map, sym, ap, ◌∙◌, subst, arith}
 use Rattle.std.proofs.lemmas.List.{take_all}
 use Rattle.std.proofs.lemmas.Iterator.Consumers.{YieldsList-from_deque, YieldsList-end}
 use Rattle.std.specs.List.{AllByRecursion}
@@ -24,7 +24,6 @@ invariant_of-result c =
     let Stored : List Chained → Type 0 = λ ks.
     (ks ≡ chained_from sha_link w.base.point.hash w.base.point.index w.base.conf_index (entries ks))
     × AllByRecursion Fits (entries ks)
-    × IsOrdered (record w { entries = entries ks })
-    × (w.base.point.index + length (entries ks) < 2 ^ 64) in
-    let new = subst Stored (sym (copied c)) (old.chained, old.fit, old.ordered, old.last) in
-    record { chained = new.0; fit = new.1; ordered = new.2; last = new.3 }
+    × IsOrdered (record w { entries = entries ks }) in
+    let new = subst Stored (sym (copied c)) (old.chained, old.fit, old.ordered) in
+    record { chained = new.0; fit = new.1; ordered = new.2; no_term = old.no_term }

@@ -1,5 +1,5 @@
 use Rattle.std.proofs.Common.{◌≡◌, sym, ap, subst, arith}
-use Rattle.svr_base.specs.declared.entry.Point.{Point}
+use Rattle.values.specs.declared.entry.Point.{Point}
 use Rattle.replica_model.specs.Linked.{sha_link}
 use Rattle.replica_log.specs.declared.graft.Graft.TheVariants.{Apart}
 use Rattle.replica_log.specs.Window.{Window, base_index, last_index}

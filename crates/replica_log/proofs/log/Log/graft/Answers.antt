@@ -1,6 +1,6 @@
 use Rattle.std.proofs.Common.{◌≡◌, ℕ, ◌+◌, ◌-◌, ◌++◌, length, drop, min, sym, ap, ◌∙◌, subst, arith}
 use Rattle.std.proofs.lemmas.List.{drop_min, take_rest}
-use Rattle.svr_base.specs.declared.entry.Hash.{Hash}
+use Rattle.values.specs.declared.entry.Hash.{Hash}
 use Rattle.replica_model.specs.Path.{Path}
 use Rattle.replica_log.specs.declared.graft.Graft.{Graft}
 use Rattle.replica_log.specs.declared.graft.Graft.TheVariants.{Grafted}

@@ -9,5 +9,5 @@ pub returns-then-keeps-clause-model : goal.returns-then-keeps-clause-model
 returns-then-keeps-clause-model c s h =
     let w : Window = c.args.self.now in
     ap Some c.hash_of.ensures
-    ∙ (sym (cond-true (is_kept w c.args.index) (Some (summary_at sha_link w c.args.index).point.hash) None (sym c.keeps.ensures ∙ c.if-keeps.true))
+    ∙ (sym (cond-true (is_kept w c.args.index) (Some (summary_at sha_link w c.args.index).point.hash) None (sym c.keeps.ensures.kept ∙ c.if-keeps.true))
     ∙ hash_at_model sha_link w s h c.args.index)

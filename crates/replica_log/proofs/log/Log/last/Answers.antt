@@ -1,6 +1,6 @@
 use Rattle.std.proofs.Common.{ℕ, ap, ◌∙◌}
-use Rattle.svr_base.specs.declared.entry.Hash.{Hash}
-use Rattle.svr_base.specs.declared.entry.Point.{Point}
+use Rattle.values.specs.declared.entry.Hash.{Hash}
+use Rattle.values.specs.declared.entry.Point.{Point}
 use Rattle.replica_model.specs.Linked.{sha_link}
 use Rattle.replica_log.specs.Window.{Window}
 use Rattle.replica_log.specs.Grafting.{point_at}

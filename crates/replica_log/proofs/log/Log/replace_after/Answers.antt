@@ -34,7 +34,7 @@ again c =
 pub invariant_of-self-2 : goal.invariant_of-self-2
 invariant_of-self-2 c =
     let a = again c in
-    record { chained = a.chained; fit = a.fit; ordered = a.ordered; last = a.last }
+    record { chained = a.chained; fit = a.fit; ordered = a.ordered; no_term = c.self.invariant.no_term }
 
 pub returns-clause-ok : goal.returns-clause-ok
 returns-clause-ok c =

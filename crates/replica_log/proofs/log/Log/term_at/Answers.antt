@@ -8,6 +8,6 @@ use Rattle.replica_log.proofs.log.Log.term_at.Goals as goal
 pub returns-then-keeps-clause-model : goal.returns-then-keeps-clause-model
 returns-then-keeps-clause-model c s h =
     let w : Window = c.args.self.now in
-    ap Some c.term_of.ensures
-    ∙ (sym (cond-true (is_kept w c.args.index) (Some (summary_at sha_link w c.args.index).term) None (sym c.keeps.ensures ∙ c.if-keeps.true))
+    ap Some c.term_of.ensures.term
+    ∙ (sym (cond-true (is_kept w c.args.index) (Some (summary_at sha_link w c.args.index).term) None (sym c.keeps.ensures.kept ∙ c.if-keeps.true))
     ∙ term_at_model sha_link w s h c.args.index)
