@@ -2,18 +2,18 @@
 use Rattle.std.proofs.Common.{◌≡◌, ℕ, ◌+◌, ◌*◌, true, false, List, [], ◌∷◌, ◌++◌, map, length, take, replicate, refl}
 use Rattle.std.specs.Prelude.{Option, Some, None, option_map}
 use Rattle.std.specs.List.{range_with_len}
-use Rattle.svr_base.specs.declared.event.Event.{Event}
-use Rattle.svr_base.specs.declared.event.Event.TheVariants as event
-use Rattle.svr_base.specs.declared.ids.ClientId.{ClientId}
-use Rattle.svr_base.specs.declared.want.Want.TheVariants as want
-use Rattle.svr_base.specs.declared.want.Report.TheVariants as report
+use Rattle.values.specs.declared.event.Event.{Event}
+use Rattle.values.specs.declared.event.Event.TheVariants as event
+use Rattle.values.specs.declared.ids.ClientId.{ClientId}
+use Rattle.values.specs.declared.want.Want.TheVariants as want
+use Rattle.values.specs.declared.want.Report.TheVariants as report
 use Rattle.proto_wire.specs.Fields.{payload_field, field_at, sequence_behind}
 use Rattle.proto_wire.specs.Varint.{groups, number_in}
-use Rattle.svr_base.specs.declared.message.Request.TheVariants.{Delete}
+use Rattle.values.specs.declared.message.Request.TheVariants.{Delete}
 use Rattle.replica_model.specs.Message.{Message}
 use Rattle.replica_model.specs.Path.{Path, Link}
 use Rattle.replica_model.specs.Keyed.{value_at}
-use Rattle.schedule_model.specs.Lines.{GroupRefusal, Lost, NotRunning, AlreadyStarted, NoSuchState, NothingInFlight, NoAnswer, NotYours}
+use Rattle.schedule_model.specs.Refusals.{GroupRefusal, Lost, NotRunning, AlreadyStarted, NoSuchState, NothingInFlight, NoAnswer, NotYours}
 use Rattle.group_model.specs.Enclave.{Enclave}
 use Rattle.group_model.specs.Group.{next_message, is_within}
 use Rattle.group_model.specs.Happens.{Came, Refused, Reported, Passed, Happening, Happened, Broken, Unanswered, happens}
@@ -48,7 +48,7 @@ sorted_voters = refl
 -- what came of one more event
 abbrev came_of : Happening Message Enclaves → Option Came
 came_of (Happened came g) = Some came
-came_of Broken = None
+came_of (Broken at f) = None
 came_of Unanswered = None
 
 abbrev came : List Event → Event → Option Came

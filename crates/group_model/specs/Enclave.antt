@@ -1,9 +1,9 @@
 -- A replica in its enclave: with its links, and the states that its host has saved.
 use Rattle.std.specs.Prelude.{ℕ, ◌-◌, ◌==◌, not, Bool, true, false, if◌then◌else◌, List, [], ◌∷◌, ◌++◌, length, filter, slice_get, Option, Some, None}
 use Rattle.group_quorum.specs.Voters.{is_in}
-use Rattle.svr_base.specs.declared.batch.Refusal.{Refusal}
-use Rattle.svr_base.specs.declared.batch.Refusal.TheVariants.{NoLink, NoState, NotForMe}
-use Rattle.svr_base.specs.declared.ids.ClientId.{ClientId}
+use Rattle.values.specs.declared.batch.Refusal.{Refusal}
+use Rattle.values.specs.declared.batch.Refusal.TheVariants.{NoLink, NoState, NotForMe}
+use Rattle.values.specs.declared.ids.ClientId.{ClientId}
 use Rattle.replica_model.specs.Path.{Link}
 use Rattle.replica_model.specs.Replica.{Replica, begin, learner}
 use Rattle.replica_model.specs.Message.{Message}

@@ -1,8 +1,8 @@
 -- The halt laws: what holds of every run without a rollback and without a collision.
 use Rattle.std.specs.Prelude.{◌≡◌, ℕ, ◌<◌, ◌⊎◌, List, [], ◌∷◌, ◌++◌, length, Some, None, IsTrue}
 use Rattle.std.specs.List.{AllByRecursion}
-use Rattle.svr_base.specs.declared.entry.LogEntry.{LogEntry}
-use Rattle.svr_base.specs.declared.event.Event.{Event}
+use Rattle.values.specs.declared.entry.LogEntry.{LogEntry}
+use Rattle.values.specs.declared.event.Event.{Event}
 use Rattle.replica_model.specs.Path.{Path, Link}
 use Rattle.replica_model.specs.Raise.{may_promise}
 use Rattle.replica_model.specs.Replica.{Replica, Role, Learner, Follower, Candidate, Leader}

@@ -3,15 +3,15 @@ use Rattle.std.specs.Prelude.{ℕ, zero, suc, nat_le, not, Bool, true, false, if
 use Rattle.group_quorum.specs.Conf.{Conf}
 use Rattle.group_quorum.specs.Voters.{conf_of, insert_rising, is_in}
 use Rattle.group_quorum.specs.declared.ConfigFault.{ConfigFault}
-use Rattle.svr_base.specs.declared.batch.Batch.{Batch}
-use Rattle.svr_base.specs.declared.event.Event.{Event}
-use Rattle.svr_base.specs.declared.event.Event.TheVariants as event
-use Rattle.svr_base.specs.declared.ids.ClientId.{ClientId}
-use Rattle.svr_base.specs.declared.want.Report.{Report}
-use Rattle.svr_base.specs.declared.want.WantFault.{WantFault}
-use Rattle.svr_base.specs.declared.want.WantFault.TheVariants as want
+use Rattle.values.specs.declared.batch.Batch.{Batch}
+use Rattle.values.specs.declared.event.Event.{Event}
+use Rattle.values.specs.declared.event.Event.TheVariants as event
+use Rattle.values.specs.declared.ids.ClientId.{ClientId}
+use Rattle.values.specs.declared.want.Report.{Report}
+use Rattle.values.specs.declared.want.WantFault.{WantFault}
+use Rattle.values.specs.declared.want.WantFault.TheVariants as want
 use Rattle.schedule_model.specs.Client.{Core, new_core, wanted, said, heard}
-use Rattle.schedule_model.specs.Lines.{GroupRefusal, NoMessage, Lost, NotRunning, AlreadyStarted, NoSuchState, ClientBusy, WrongSize, NumbersOut, NothingInFlight, NoAnswer, NotYours}
+use Rattle.schedule_model.specs.Refusals.{GroupRefusal, NoMessage, Lost, NotRunning, AlreadyStarted, NoSuchState, ClientBusy, WrongSize, NumbersOut, NothingInFlight, NoAnswer, NotYours}
 use Rattle.group_model.specs.Enclave.{Begin, Learn, HostInput, Tick, Peer, Client, Join, Admit, Remove, Save, Roll, Connect, Margin}
 use Rattle.group_model.specs.Field.{Field, Reply, Answers, Unreadable, Nothing}
 use Rattle.group_model.specs.Group.{Setup, Group, Sent, Answered, Hearing, numbered, but, is_client, core_of, put_core, saves_of, keeps}
@@ -23,10 +23,10 @@ pub data Came : Type 0 where
   Reported : (client : ClientId) (report : Report) → Came
   Passed : Came
 
--- an event happened, or the field answered it by what is no batch, or not at all
+-- an event happened, or the field answered it by what is no batch, and stands there, or not at all
 pub data Happening (M F : Type 0) : Type 0 where
   Happened : (came : Came) (group : Group M F) → Happening M F
-  Broken : Happening M F
+  Broken : (at : ℕ) (field : F) → Happening M F
   Unanswered : Happening M F
 
 module _ {M F : Type 0} (field : Field M F) where
@@ -43,7 +43,7 @@ module _ {M F : Type 0} (field : Field M F) where
 
   abbrev pub replied : ℕ → Group M F → Reply M F → Happening M F
   replied r g (Answers batch sent f) = Happened (Replied r batch) (keeps g r batch sent f)
-  replied r g Unreadable = Broken
+  replied r g (Unreadable at f) = Broken at f
   replied r g Nothing = Unanswered
 
   -- the replica is called
@@ -75,7 +75,7 @@ module _ {M F : Type 0} (field : Field M F) where
   abbrev pub connected : ℕ → List ℕ → F → (F → Happening M F) → Happening M F
   connected x [] f next = next f
   connected x (r ∷ rs) f next =
-      elim (field.call f r (Connect x)) [ Answers batch sent g ↦ connected x rs g next | Unreadable ↦ Broken | Nothing ↦ Unanswered ]
+      elim (field.call f r (Connect x)) [ Answers batch sent g ↦ connected x rs g next | Unreadable at g ↦ Broken at g | Nothing ↦ Unanswered ]
 
   abbrev pub starts : ℕ → Group M F → Happening M F
   starts x g =
@@ -108,7 +108,7 @@ module _ {M F : Type 0} (field : Field M F) where
 
   abbrev pub rolled : ℕ → Group M F → Reply M F → Happening M F
   rolled r g (Answers batch sent f) = Happened (Replied r batch) (rolled_back r batch (keeps g r batch sent f))
-  rolled r g Unreadable = Broken
+  rolled r g (Unreadable at f) = Broken at f
   rolled r g Nothing = Unanswered
 
   abbrev pub rolls : ℕ → ℕ → Group M F → Happening M F

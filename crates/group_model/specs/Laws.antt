@@ -1,14 +1,14 @@
 -- The one-log laws: what holds of every run within the rollback bound and without a collision.
 use Rattle.std.specs.Prelude.{◌≡◌, ℕ, ◌<◌, List, take, Some, IsSomeAnd, Ok}
 use Rattle.std.specs.List.{AllByRecursion}
-use Rattle.svr_base.specs.declared.entry.Body.TheVariants.{Ask}
-use Rattle.svr_base.specs.declared.entry.Hash.{Hash}
-use Rattle.svr_base.specs.declared.event.Event.{Event}
-use Rattle.svr_base.specs.declared.ids.ClientId.{ClientId}
-use Rattle.svr_base.specs.declared.message.Reply.TheVariants.{Applied}
-use Rattle.svr_base.specs.declared.message.Request.{Request}
-use Rattle.svr_base.specs.declared.message.Request.TheVariants.{Restore}
-use Rattle.svr_base.specs.declared.message.Response.TheVariants.{Restore as Restored}
+use Rattle.values.specs.declared.entry.Body.TheVariants.{Ask}
+use Rattle.values.specs.declared.entry.Hash.{Hash}
+use Rattle.values.specs.declared.event.Event.{Event}
+use Rattle.values.specs.declared.ids.ClientId.{ClientId}
+use Rattle.values.specs.declared.message.Reply.TheVariants.{Applied}
+use Rattle.values.specs.declared.message.Request.{Request}
+use Rattle.values.specs.declared.message.Request.TheVariants.{Restore}
+use Rattle.values.specs.declared.message.Response.TheVariants.{Restore as Restored}
 use Rattle.client_msgs.specs.Canonical.{canonical_request}
 use Rattle.client_msgs.specs.Reading.{request_of}
 use Rattle.record_table.specs.declared.status.TheConstants.{OK}

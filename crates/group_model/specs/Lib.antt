@@ -1,9 +1,11 @@
+pub mod Due
 pub mod Enclave
 pub mod Field
 pub mod Group
 pub mod Happens
 pub mod Run
 pub mod Log
+pub mod Backed
 pub mod Laws
 pub mod Halts
 pub mod Reports

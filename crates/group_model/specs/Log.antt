@@ -1,18 +1,17 @@
 -- What a run's history tells: the log, the outcomes, what was held and promised, who was rolled back.
-use Rattle.std.specs.Prelude.{◌≡◌, ℕ, zero, suc, ◌+◌, ◌*◌, ◌<◌, ◌≤◌, ◌==◌, ◌⊎◌, nat_lt, Bool, true, if◌then◌else◌, List, [], ◌∷◌, ◌++◌, map, length, take, find, filter_map, count_by, Option, Some, None, option_map, unwrap_or, IfSome, Result, Ok, Err}
+use Rattle.std.specs.Prelude.{◌≡◌, ℕ, ◌+◌, ◌*◌, ◌≤◌, ◌==◌, ◌⊎◌, nat_lt, Bool, true, if◌then◌else◌, List, [], ◌∷◌, ◌++◌, map, length, take, find, filter_map, count_by, Option, Some, None, option_map, unwrap_or, IfSome, Result, Ok, Err}
 use Rattle.group_quorum.specs.Conf.{Conf, Met}
 use Rattle.group_quorum.specs.Voters.{is_in}
-use Rattle.svr_base.specs.declared.entry.Body.TheVariants.{Members}
-use Rattle.svr_base.specs.declared.entry.LogEntry.{LogEntry}
-use Rattle.svr_base.specs.declared.ids.ClientId.{ClientId}
-use Rattle.svr_base.specs.declared.message.Answer.{Answer}
-use Rattle.svr_base.specs.declared.message.Answer.TheVariants as answer
-use Rattle.svr_base.specs.declared.message.Reply.{Reply}
-use Rattle.svr_base.specs.declared.message.Request.{Request}
+use Rattle.values.specs.declared.entry.Body.TheVariants.{Members}
+use Rattle.values.specs.declared.entry.LogEntry.{LogEntry}
+use Rattle.values.specs.declared.ids.ClientId.{ClientId}
+use Rattle.values.specs.declared.message.Answer.{Answer}
+use Rattle.values.specs.declared.message.Answer.TheVariants as answer
+use Rattle.values.specs.declared.message.Reply.{Reply}
+use Rattle.values.specs.declared.message.Request.{Request}
 use Rattle.client_msgs.specs.Reading.{request_of}
 use Rattle.client_msgs.specs.declared.fault.RequestFault.{RequestFault}
 use Rattle.replica_model.specs.Path.{Path, Link, chain}
-use Rattle.replica_model.specs.Configs.{conf, conf_index, older_conf}
 use Rattle.replica_model.specs.Replica.{Replica, Ticket}
 use Rattle.replica_model.specs.Message.{Message}
 use Rattle.group_model.specs.Enclave.{HostInput, Client}
@@ -138,25 +137,3 @@ pub record MetBy (c : Conf) (R : ℕ → Type 0) : Type 0 where
   pub who : ℕ → Bool
   pub each : (v : ℕ) → who v ≡ true → R v
   pub enough : Met c who
-
--- the path up to its last Members entry
-abbrev pub to_last_members : Path → Path
-to_last_members p = take (conf_index p) p
-
--- a path is backed as a whole, over paths that were backed earlier
-pub record Backs (w : World) (Earlier : Path → Type 0) (p : Path) : Type 0 where
-  pub whole : MetBy (conf (setup_of w).first p) (λ v. EverPromised w v p)
-  pub newest :
-      0 < conf_index p
-      → MetBy (older_conf (setup_of w).first p) (λ v. EverPromised w v (to_last_members p)) ⊎ Earlier (to_last_members p)
-  pub older :
-      (u z : Path) (term margin : ℕ) (voters : List ℕ) → u ++ record { term = term; body = Members margin voters } ∷ z ≡ p
-      → length u + 1 < conf_index p → Earlier (u ++ record { term = term; body = Members margin voters } ∷ [])
-
--- the paths that are backed in so many rounds
-abbrev pub BackedIn : World → ℕ → Path → Type 0
-BackedIn w zero p = p ≡ []
-BackedIn w (suc n) p = BackedIn w n p ⊎ ((q : Path) × IsFrontOf p q × Backs w (BackedIn w n) q)
-
-abbrev pub Backed : World → Path → Type 0
-Backed w p = (n : ℕ) × BackedIn w n p

@@ -1,6 +1,6 @@
 -- Runs of the group whose replicas are those of the model, with all that they ever did.
-use Rattle.std.specs.Prelude.{ℕ, List, [], ◌∷◌, fold, Option, Some, None}
-use Rattle.svr_base.specs.declared.event.Event.{Event}
+use Rattle.std.specs.Prelude.{ℕ, false, List, [], ◌∷◌, fold, Option, Some, None}
+use Rattle.values.specs.declared.event.Event.{Event}
 use Rattle.replica_model.specs.Path.{Link}
 use Rattle.replica_model.specs.Keyed.{value_at, put, without}
 use Rattle.replica_model.specs.Replica.{Replica}
@@ -55,6 +55,7 @@ enclaves link =
       start = start_enclave;
       call = λ f r input. call_enclave link f r input (value_at f.running r);
       stop = λ f r. record f { running = without f.running r };
+      has_failed = λ f. false;
     }
 
 abbrev pub World : Type 0
@@ -66,7 +67,7 @@ empty_world = nothing_started no_enclaves
 -- the group after what happened; a field that does not answer leaves it
 abbrev pub group_after : {M F : Type 0} → Group M F → Happening M F → Group M F
 group_after g (Happened came h) = h
-group_after g Broken = g
+group_after g (Broken at f) = g
 group_after g Unanswered = g
 
 -- the world after these events

@@ -1,29 +1,31 @@
 -- Traces of short schedules, with a link that is easy to read.
-use Rattle.std.proofs.Common.{◌≡◌, ℕ, ◌+◌, ◌*◌, true, false, List, [], ◌∷◌, ◌++◌, map, replicate, Some, None, refl}
-use Rattle.std.specs.Prelude.{codes}
+use Rattle.std.proofs.Common.{◌≡◌, ℕ, ◌+◌, ◌*◌, true, false, List, [], ◌∷◌, ◌++◌, map, replicate, Some, None, Ok, Err, refl}
+use Rattle.std.specs.Prelude.{codes, flat_map}
 use Rattle.std.specs.Fmt.{digits}
 use Rattle.csv.proofs.OnLiterals.{csv_on_literals}
 use Rattle.hex.proofs.OnLiterals.{hex_on_literals}
 use Rattle.proto_wire.specs.Fields.{payload_field, field_at, sequence_behind}
 use Rattle.proto_wire.specs.Varint.{groups, number_in}
-use Rattle.svr_base.specs.declared.entry.Body.TheVariants.{Noop}
-use Rattle.svr_base.specs.declared.entry.LogEntry.{LogEntry}
-use Rattle.svr_base.specs.declared.event.Event.TheVariants as event
+use Rattle.values.specs.declared.entry.Body.TheVariants.{Noop}
+use Rattle.values.specs.declared.entry.LogEntry.{LogEntry}
+use Rattle.values.specs.declared.event.Event.TheVariants as event
+use Rattle.replica_model.specs.Call.{empty_batch}
 use Rattle.replica_model.specs.Path.{Link}
-use Rattle.schedule_model.specs.Cutting.{lines_with}
-use Rattle.schedule_model.specs.Lines.{line_text, Replicas, States}
-use Rattle.schedule_model.specs.Written.{all_written}
+use Rattle.record_cutting.specs.Lines.{whole_lines, last_part, line_records}
+use Rattle.schedule_model.specs.Lines.{line_text}
+use Rattle.schedule_model.specs.Quantities.{Replicas, States}
+use Rattle.schedule_model.specs.Written.{AtFrame, Off, all_written, last_of}
 use Rattle.group_model.specs.Run.{World, empty_world}
+use Rattle.trace_model.specs.Contents.{ReadsBatch, played_from, left_from}
 use Rattle.trace_model.specs.Limits.{passed_before, passed_after}
 use Rattle.trace_model.specs.Schedules.{trace_of, whole_text_of}
-use Rattle.trace_model.specs.TableText.{table_text}
 use Rattle.trace_model.specs.Driver.{Driver, Silence, Led, seen}
 use Rattle.trace_model.specs.TraceLines.{TraceLine, EventLine, Commit, Refused, LogEnd, Rollbacks, End, Stopped}
 use Rattle.trace_model.specs.Audit.{Verdict, Accepts, Refuses, WrongCommit, WrongRollbacks, WrongEnd, verdict, new_audit}
 
 -- what texts are read and written with
 unfoldable reading : Unit {0}
-unfolding digits csv_on_literals hex_on_literals payload_field field_at sequence_behind groups number_in lines_with line_text all_written
+unfolding digits csv_on_literals hex_on_literals payload_field field_at sequence_behind groups number_in whole_lines last_part line_records line_text all_written
 reading = tt
 
 abbrev toy : Link
@@ -35,9 +37,9 @@ unfolding reading
 whole = refl
 
 -- where whole lines alone count, neither is
-whole_lines : whole_text_of toy (codes "begin,0,9,1\n#\ntick,1") ≡ codes "event,1,begin,0,9,1\n"
+lines_alone : whole_text_of toy (codes "begin,0,9,1\n#\ntick,1") ≡ codes "event,1,begin,0,9,1\n"
 unfolding reading
-whole_lines = refl
+lines_alone = refl
 
 -- a remark is counted, and the text ends at a bad record
 stopped : trace_of toy (codes "#\nbegin,0,9,1\ntick,x\ntick,1\n") ≡ codes "event,1,begin,0,9,1\nstopped,schedule,3,number,2\n"
@@ -67,15 +69,6 @@ states = refl
 
 all_states : passed_after (record empty_world { saves = replicate 64 1 }) ≡ None
 all_states = refl
-
--- a table: its records have no remarks, and its end is the number of rows
-table : table_text 1 (codes "00000000000000000000000000000001,1,2200\n#\n") ≡ codes "1,done,1a00\nstopped,schedule,2,fields,0\n"
-unfolding reading
-table = refl
-
-rows : table_text 1 (codes "00000000000000000000000000000001,1,\n") ≡ codes "1,invalid,nothing,0\nrows,0\n"
-unfolding reading
-rows = refl
 
 -- a driver asks the leader that it hears of, where it runs; else it moves on and wakes
 abbrev driver : Driver
@@ -111,3 +104,19 @@ gap = refl
 
 after_stopped : judged (Stopped ∷ Stopped ∷ []) ≡ Refuses 2 WrongEnd
 after_stopped = refl
+
+-- contents: one without bytes is no batch from offset 4 on, and any other has a saved state
+abbrev read : ReadsBatch
+read [] = Err 4
+read (b ∷ bytes) = Ok (record empty_batch { saved = Some 1 })
+
+-- the content that is no batch ends the text, and the one after it is left
+refused_content : played_from read (codes "begin,0,9,1\ntick,1\ntick,1\n") ((1 ∷ []) ∷ [] ∷ (2 ∷ []) ∷ [])
+    ≡ Off (codes "event,1,begin,0,9,1\nevent,2,tick,1\nsaved,1,1\n") (AtFrame 4) (record (last_of (played_from read (codes "begin,0,9,1\ntick,1\n#\n") ((1 ∷ []) ∷ [] ∷ (2 ∷ []) ∷ []))) { stands = (2 ∷ []) ∷ [] })
+unfolding reading
+refused_content = refl
+
+-- so does the one whose batch passes a limit
+state_too_many : left_from read (flat_map (λ line. line) (codes "begin,0,9,1\n" ∷ replicate 65 (codes "save,1\n"))) (replicate 65 (1 ∷ []) ++ (2 ∷ []) ∷ []) ≡ (2 ∷ []) ∷ []
+unfolding reading
+state_too_many = refl

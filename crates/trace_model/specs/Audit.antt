@@ -3,21 +3,19 @@ use Rattle.std.specs.Prelude.{◌≡◌, ℕ, ◌+◌, ◌==◌, ◌&&◌, not, 
 use Rattle.std.specs.List.{list_all, AllZip}
 use Rattle.group_quorum.specs.Conf.{Conf}
 use Rattle.group_quorum.specs.Voters.{rising}
-use Rattle.svr_base.specs.declared.entry.Body.{Body}
-use Rattle.svr_base.specs.declared.entry.Body.TheVariants as body
-use Rattle.svr_base.specs.declared.entry.LogEntry.{LogEntry}
-use Rattle.svr_base.specs.declared.event.Event.{Event}
-use Rattle.svr_base.specs.declared.event.Event.TheVariants as event
-use Rattle.svr_base.specs.declared.ids.ClientId.{ClientId}
-use Rattle.svr_base.specs.declared.message.Reply.{Reply}
-use Rattle.svr_base.specs.declared.message.Reply.TheVariants as reply
+use Rattle.values.specs.declared.entry.Body.{Body}
+use Rattle.values.specs.declared.entry.Body.TheVariants as body
+use Rattle.values.specs.declared.entry.LogEntry.{LogEntry}
+use Rattle.values.specs.declared.event.Event.{Event}
+use Rattle.values.specs.declared.event.Event.TheVariants as event
+use Rattle.values.specs.declared.ids.ClientId.{ClientId}
+use Rattle.values.specs.declared.message.Reply.{Reply}
+use Rattle.values.specs.declared.message.Reply.TheVariants as reply
 use Rattle.client_msgs.specs.Canonical.{canonical_response}
 use Rattle.replica_model.specs.Path.{Path, Link, entry_at}
 use Rattle.replica_model.specs.Folds.{reply_of}
-use Rattle.schedule_model.specs.Cutting.{lines_with, line_if_any}
+use Rattle.record_cutting.specs.Lines.{lines_of}
 use Rattle.group_model.specs.Group.{Setup, bears, is_client}
-use Rattle.trace_model.specs.Schedules.{trace_of, world_of}
-use Rattle.group_model.specs.Log.{WithinBound, NoCollision}
 use Rattle.trace_model.specs.TraceLines.{TraceLine, EventLine, Commit, Outcome, Members, Refused, LogEnd, Rollbacks, End, Stopped, Other, Says}
 
 -- why a line is refused
@@ -186,10 +184,4 @@ Reads line None = (what : TraceLine) → ¬ (LineSays line what)
 -- the verdict on a trace
 abbrev pub Audits : List ℕ → Verdict → Type 0
 Audits bytes v =
-    (said : List (Option TraceLine)) × AllZip Reads (lines_with line_if_any [] bytes) said × (v ≡ verdict 0 new_audit said)
-
--- the promise: a trace of a run within the bound and without a collision is accepted
-abbrev pub TraceIsAccepted : Type 0
-TraceIsAccepted =
-    (link : Link) (bytes : List ℕ) → WithinBound (world_of link bytes) → NoCollision link (world_of link bytes)
-    → (lines : ℕ) × Audits (trace_of link bytes) (Accepts lines)
+    (said : List (Option TraceLine)) × AllZip Reads (lines_of bytes) said × (v ≡ verdict 0 new_audit said)

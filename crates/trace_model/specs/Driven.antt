@@ -1,14 +1,14 @@
 -- A driven schedule: each accepted want is carried to its report by events of the driver's own.
 use Rattle.std.specs.Prelude.{ℕ, zero, suc, ◌+◌, ◌==◌, ◌&&◌, not, Bool, true, false, if◌then◌else◌, List, [], ◌∷◌, length, drop, reverse, fold, slice_get, codes, decimal, Option, Some, None, is_some, is_none, option_and_then, unwrap_or, Result, Ok, Err}
 use Rattle.std.specs.List.{enumerate_from}
-use Rattle.svr_base.specs.declared.event.Event.{Event}
-use Rattle.svr_base.specs.declared.event.Event.TheVariants as event
-use Rattle.svr_base.specs.declared.ids.ClientId.{ClientId}
-use Rattle.svr_base.specs.declared.message.Answer.{Answer}
-use Rattle.svr_base.specs.declared.message.Answer.TheVariants as answer
+use Rattle.values.specs.declared.event.Event.{Event}
+use Rattle.values.specs.declared.event.Event.TheVariants as event
+use Rattle.values.specs.declared.ids.ClientId.{ClientId}
+use Rattle.values.specs.declared.message.Answer.{Answer}
+use Rattle.values.specs.declared.message.Answer.TheVariants as answer
 use Rattle.replica_model.specs.Path.{Link}
 use Rattle.replica_model.specs.Message.{Message}
-use Rattle.schedule_model.specs.Cutting.{Fields, records_of}
+use Rattle.record_cutting.specs.Lines.{Record, records_of}
 use Rattle.schedule_model.specs.Reading.{RecordFault}
 use Rattle.schedule_model.specs.Records.{event_of}
 use Rattle.schedule_model.specs.Client.{Flight}
@@ -134,7 +134,7 @@ module _ {M F : Type 0} (field : Field M F) where
   driven_said d (Err fault) = Off [] (AtRecord (d.playing.records + 1) fault) d
 
   -- one record is played
-  abbrev pub driven_record : Driving M F → Fields → Written (Driving M F)
+  abbrev pub driven_record : Driving M F → Record → Written (Driving M F)
   driven_record d fields = driven_said d (event_of true (is_some d.playing.group.setup) fields)
 
   -- what a driven schedule writes

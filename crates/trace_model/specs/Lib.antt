@@ -2,11 +2,12 @@ pub mod Limits
 pub mod Trace
 pub mod Schedules
 pub mod Contents
-pub mod TableText
 pub mod Driver
 pub mod Driven
 pub mod Summary
 pub mod Session
 pub mod TraceLines
+pub mod Hashing
 pub mod Audit
+pub mod PartMap
 pub mod Claims

@@ -2,7 +2,7 @@
 use Rattle.std.specs.Prelude.{ℕ, List, Option}
 use Rattle.replica_model.specs.Path.{Link}
 use Rattle.replica_model.specs.Message.{Message}
-use Rattle.schedule_model.specs.Cutting.{whole_records}
+use Rattle.record_cutting.specs.Lines.{whole_records}
 use Rattle.schedule_model.specs.Written.{Stop, Written, text_with, no_closing, last_of, stop_of}
 use Rattle.group_model.specs.Run.{Enclaves, World, enclaves, no_enclaves, empty_world}
 use Rattle.trace_model.specs.Trace.{Playing, playing, closing, records_played, schedule_played}
@@ -26,3 +26,7 @@ stop_in link bytes = stop_of (played_of link bytes)
 -- the world after the events that were played
 abbrev pub world_of : Link → List ℕ → World
 world_of link bytes = (last_of (played_of link bytes)).group
+
+-- the enclaves as the trace left them: with the calls of the event that ended it, where one did
+abbrev pub enclaves_of : Link → List ℕ → Enclaves
+enclaves_of link bytes = (last_of (played_of link bytes)).stands

@@ -3,12 +3,13 @@ use Rattle.std.specs.Prelude.{ℕ, zero, suc, ◌+◌, ◌==◌, ◌||◌, nat_l
 use Rattle.std.specs.List.{AllByRecursion}
 use Rattle.std.specs.Int.{w32, w64, to_be_bytes, from_be_bytes}
 use Rattle.group_quorum.specs.Voters.{is_in}
-use Rattle.svr_base.specs.declared.batch.Batch.{Batch}
-use Rattle.svr_base.specs.declared.batch.Refusal.{Refusal}
-use Rattle.svr_base.specs.declared.batch.Refusal.TheVariants.{BadPeer, NoLink, NotForMe}
-use Rattle.svr_base.specs.declared.entry.Point.{Point}
-use Rattle.svr_base.specs.declared.peer.PeerMsg.{PeerMsg}
-use Rattle.svr_base.specs.declared.peer.PeerMsg.TheVariants.{Part}
+use Rattle.values.specs.declared.batch.Batch.{Batch}
+use Rattle.values.specs.declared.batch.Refusal.{Refusal}
+use Rattle.values.specs.declared.batch.Refusal.TheVariants.{BadPeer, NoLink, NotForMe}
+use Rattle.values.specs.declared.entry.Point.{Point}
+use Rattle.values.specs.declared.limits.TheConstants.{MAX_CONTENT}
+use Rattle.values.specs.declared.peer.PeerMsg.{PeerMsg}
+use Rattle.values.specs.declared.peer.PeerMsg.TheVariants.{Part}
 use Rattle.replica_model.specs.Path.{Link}
 use Rattle.replica_model.specs.Replica.{Named, Role, Learner}
 use Rattle.replica_model.specs.Message.{Message, plain}
@@ -71,10 +72,6 @@ pub record Handed : Type 0 where
 pub record Session (E : Type 0) : Type 0 where
   pub handed : List Handed
   pub end : End E
-
--- the most bytes of a frame's content
-abbrev pub max_content : ℕ
-max_content = 1048576
 
 -- a part names the path that the map has at its point
 abbrev pub named : (Point → Named) → PeerMsg → Message
@@ -142,7 +139,7 @@ module _ {E : Type 0} (wording : Wording E) (tagging : Tagging) (link : Link) (n
   -- the content has this length
   abbrev pub sized_frame : ℕ → ℕ → Option Enclave → ℕ → List ℕ → (Enclave → Session E) → Session E
   sized_frame offset number before n bytes next =
-      if nat_lt n 1 || nat_lt max_content n then ends_at offset (Length n)
+      if nat_lt n 1 || nat_lt MAX_CONTENT n then ends_at offset (Length n)
       else if nat_lt (length bytes) (n + tagging.size) then ends_at offset Cut
       else whole_frame offset number before (take n bytes) (take tagging.size (drop n bytes)) next
 

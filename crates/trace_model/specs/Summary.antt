@@ -1,7 +1,7 @@
 -- The summary of a drill.
 use Rattle.std.specs.Prelude.{ℕ, Bool, true, false, List, [], ◌∷◌, length, count_by, codes, decimal, Option, Some, None, is_some}
-use Rattle.svr_base.specs.declared.want.Report.{Report}
-use Rattle.svr_base.specs.declared.want.Report.TheVariants as report
+use Rattle.values.specs.declared.want.Report.{Report}
+use Rattle.values.specs.declared.want.Report.TheVariants as report
 use Rattle.replica_model.specs.Path.{Link}
 use Rattle.replica_model.specs.Message.{Message}
 use Rattle.schedule_model.specs.Drill.{drill_events}

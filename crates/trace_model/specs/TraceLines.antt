@@ -1,30 +1,35 @@
 -- The lines that a trace may have, read again: each is what is printed of values in their ranges.
 use Rattle.std.specs.Prelude.{◌≡◌, ℕ, ◌==◌, ◌&&◌, nat_le, nat_lt, not, Bool, true, false, List, [], ◌∷◌, length, Some, is_none, IsTrue, Ok}
-use Rattle.std.specs.List.{join_with_byte, list_all}
+use Rattle.std.specs.List.{AllByRecursion, join_with_byte, list_all}
 use Rattle.group_quorum.specs.Voters.{fault_of}
-use Rattle.svr_base.specs.declared.batch.Refusal.{Refusal}
-use Rattle.svr_base.specs.declared.batch.Refusal.TheVariants as refusal
-use Rattle.svr_base.specs.declared.entry.Body.{Body}
-use Rattle.svr_base.specs.declared.entry.Body.TheVariants.{Noop, Ask, Members as MembersBody}
-use Rattle.svr_base.specs.declared.entry.Hash.{Hash}
-use Rattle.svr_base.specs.declared.entry.LogEntry.{LogEntry}
-use Rattle.svr_base.specs.declared.entry.Point.{Point}
-use Rattle.svr_base.specs.declared.event.Event.{Event}
-use Rattle.svr_base.specs.declared.event.Event.TheVariants as event
-use Rattle.svr_base.specs.declared.ids.ClientId.{ClientId}
-use Rattle.svr_base.specs.declared.message.Answer.{Answer}
-use Rattle.svr_base.specs.declared.message.Answer.TheVariants as answer
-use Rattle.svr_base.specs.declared.message.Reply.{Reply}
-use Rattle.svr_base.specs.declared.message.Reply.TheVariants as reply
-use Rattle.svr_base.specs.declared.peer.PeerMsg.{PeerMsg}
-use Rattle.svr_base.specs.declared.peer.PeerMsg.TheVariants as peer
-use Rattle.svr_base.specs.declared.want.Report.{Report}
-use Rattle.svr_base.specs.declared.want.Report.TheVariants as report
+use Rattle.group_quorum.specs.declared.TheConstants.{MAX_ID, MAX_MARGIN}
+use Rattle.values.specs.declared.batch.Refusal.{Refusal}
+use Rattle.values.specs.declared.batch.Refusal.TheVariants as refusal
+use Rattle.values.specs.declared.entry.Body.{Body}
+use Rattle.values.specs.declared.entry.Body.TheVariants.{Noop, Ask, Members as MembersBody}
+use Rattle.values.specs.declared.entry.Hash.{Hash}
+use Rattle.values.specs.declared.entry.LogEntry.{LogEntry}
+use Rattle.values.specs.declared.entry.Point.{Point}
+use Rattle.values.specs.declared.event.Event.{Event}
+use Rattle.values.specs.declared.event.Event.TheVariants as event
+use Rattle.values.specs.declared.ids.ClientId.{ClientId}
+use Rattle.values.specs.declared.message.Answer.{Answer}
+use Rattle.values.specs.declared.message.Answer.TheVariants as answer
+use Rattle.values.specs.declared.message.Reply.{Reply}
+use Rattle.values.specs.declared.message.Reply.TheVariants as reply
+use Rattle.values.specs.declared.message.Response.{Response}
+use Rattle.values.specs.declared.message.Response.TheVariants as response
+use Rattle.values.specs.declared.peer.PeerMsg.{PeerMsg}
+use Rattle.values.specs.declared.peer.PeerMsg.TheVariants as peer
+use Rattle.values.specs.declared.want.Report.{Report}
+use Rattle.values.specs.declared.want.Report.TheVariants as report
 use Rattle.client_msgs.specs.Strict.{IsCanonical}
-use Rattle.svr_base.specs.declared.limits.TheConstants.{TOP}
+use Rattle.values.specs.declared.limits.TheConstants.{TOP}
 use Rattle.schedule_model.specs.Reading.{RecordFault, max_u32, max_u64}
 use Rattle.schedule_model.specs.Records.{event_of}
-use Rattle.schedule_model.specs.Lines.{Line, GroupRefusal, NoMessage, Lost, NotRunning, AlreadyStarted, NoSuchState, ClientBusy, WrongSize, NumbersOut, NothingInFlight, NoAnswer, NotYours, Quantity, record_fields, event_line, refused_line, refusal_fields, group_refusal_fields, lead_line, members_line, halt_line, taken_line, commit_line, answer_line, sent_line, saved_line, client_line, log_line, rollbacks_line, end_line, stopped_at_record, stopped_at_limit, stopped_at_frame}
+use Rattle.schedule_model.specs.Lines.{Line, record_fields, event_line, refused_line, refusal_fields, group_refusal_fields, lead_line, members_line, halt_line, taken_line, commit_line, answer_line, sent_line, saved_line, client_line, log_line, rollbacks_line, end_line, stopped_at_record, stopped_at_limit, stopped_at_frame}
+use Rattle.schedule_model.specs.Refusals.{GroupRefusal, NoMessage, Lost, NotRunning, AlreadyStarted, NoSuchState, ClientBusy, WrongSize, NumbersOut, NothingInFlight, NoAnswer, NotYours}
+use Rattle.schedule_model.specs.Quantities.{Quantity}
 
 -- the bytes of a line, without its line feed
 abbrev pub joined : Line → List ℕ
@@ -38,7 +43,7 @@ abbrev pub is_u32 : ℕ → Bool
 is_u32 n = nat_le n max_u32
 
 abbrev pub is_replica : ℕ → Bool
-is_replica r = nat_le 1 r && nat_le r 65535
+is_replica r = nat_le 1 r && nat_le r MAX_ID
 
 -- an index or a term
 abbrev pub is_index : ℕ → Bool
@@ -63,15 +68,21 @@ is_rising (v ∷ []) = true
 is_rising (v ∷ w ∷ vs) = nat_lt v w && is_rising (w ∷ vs)
 
 abbrev pub is_members : ℕ → List ℕ → Bool
-is_members margin voters = nat_le margin 15 && (nat_le 1 (length voters) && (is_rising voters && is_none (fault_of margin voters)))
+is_members margin voters = nat_le margin MAX_MARGIN && (nat_le 1 (length voters) && (is_rising voters && is_none (fault_of margin voters)))
 
 abbrev pub IsBody : Body → Type 0
 IsBody Noop = Unit {0}
-IsBody (Ask client number request) = IsTrue (is_client_id client && is_u64 number) × IsCanonical request
+IsBody (Ask client number request) = IsTrue (is_client_id client && (is_u64 number && list_all is_byte request)) × IsCanonical request
 IsBody (MembersBody margin voters) = IsTrue (is_members margin voters)
 
+abbrev pub is_response : Response → Bool
+is_response (response.Backup status) = is_u32 status
+is_response (response.Restore status secret tries) = is_u32 status && (list_all is_byte secret && is_u32 tries)
+is_response response.Delete = true
+is_response (response.Expose status) = is_u32 status
+
 abbrev pub is_reply : Reply → Bool
-is_reply (reply.Applied response) = true
+is_reply (reply.Applied what) = is_response what
 is_reply (reply.Stale last) = is_u64 last
 is_reply (reply.TableFull rows) = is_u32 rows
 
@@ -175,10 +186,17 @@ form_fields (StoppedAtRecord number f) = stopped_at_record number f
 form_fields (StoppedAtLimit which) = stopped_at_limit which
 form_fields StoppedAtFrame = stopped_at_frame
 
+-- no field holds a comma or a line feed, so that a trace is cut into its lines, and a line into its fields
+abbrev pub is_plain : ℕ → Bool
+is_plain b = not (b == 44) && not (b == 10)
+
+abbrev pub FieldsArePlain : Type 0
+FieldsArePlain = (form : Form) → AllByRecursion (λ (field : List ℕ). IsTrue (list_all is_plain field)) (form_fields form)
+
 -- what an answer's line tells is in range
 abbrev pub is_answer : Answer → Bool
 is_answer (answer.Outcome index what) = is_index index && is_reply what
-is_answer (answer.NotLeader id) = nat_le id 65535
+is_answer (answer.NotLeader id) = nat_le id MAX_ID
 is_answer (answer.Busy waiting) = is_u64 waiting
 is_answer (answer.Undecided at kept offered) = is_index at && (is_hash kept && is_hash offered)
 is_answer (answer.Malformed offset) = is_u64 offset
