@@ -15,4 +15,4 @@ some_voter overlap c R met =
 pub shared_voter : QuorumsOutlast → (c : Conf) (rolled : ℕ → Bool) (R S : ℕ → Type 0) → Bears rolled c → MetBy c R → MetBy c S → (v : ℕ) × (rolled v ≡ false) × R v × S v
 shared_voter outlast c rolled R S within a b =
     let v = outlast c a.who b.who rolled a.enough b.enough within in
-    (v.0, v.3, a.each v.0 v.1, b.each v.0 v.2)
+    (v.0, v.4, a.each v.0 v.2, b.each v.0 v.3)

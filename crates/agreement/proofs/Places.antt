@@ -2,9 +2,9 @@
 use Rattle.std.proofs.Common.{◌≡◌, ℕ, ◌≤◌, zero, suc, ◌+◌, Bool, true, false, ◌||◌, ◌⊎◌, inl, inr, [], ◌∷◌, ◌++◌, length, take, drop, refl, sym, ap, ◌∙◌, subst, cond, add-one, arith}
 use Rattle.std.proofs.lemmas.Bool.{or_parts, or_cases, or_right, cases_Bool}
 use Rattle.std.proofs.lemmas.List.{take_at, take-take, take-append-drop}
-use Rattle.svr_base.specs.declared.entry.Body.{Body}
-use Rattle.svr_base.specs.declared.entry.Body.TheVariants.{Noop, Ask, Members}
-use Rattle.svr_base.specs.declared.entry.LogEntry.{LogEntry}
+use Rattle.values.specs.declared.entry.Body.{Body}
+use Rattle.values.specs.declared.entry.Body.TheVariants.{Noop, Ask, Members}
+use Rattle.values.specs.declared.entry.LogEntry.{LogEntry}
 use Rattle.group_quorum.specs.Conf.{Conf}
 use Rattle.replica_model.specs.Path.{Path}
 use Rattle.replica_model.specs.Configs.{is_members, changed_by, conf, conf_index_from, conf_index}

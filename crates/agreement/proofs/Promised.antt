@@ -1,9 +1,9 @@
 -- Paths whose places were all promised never differ.
 use Rattle.std.proofs.Common.{◌≡◌, ℕ, Bool, inl, inr, [], ◌∷◌, ◌++◌, refl, sym, ap, ◌∙◌, subst, append_assoc}
 use Rattle.std.proofs.lemmas.List.{append-nil, append_cancel_left}
-use Rattle.svr_base.specs.declared.entry.Body.{Body}
-use Rattle.svr_base.specs.declared.entry.Body.TheVariants.{Noop, Ask, Members}
-use Rattle.svr_base.specs.declared.entry.LogEntry.{LogEntry}
+use Rattle.values.specs.declared.entry.Body.{Body}
+use Rattle.values.specs.declared.entry.Body.TheVariants.{Noop, Ask, Members}
+use Rattle.values.specs.declared.entry.LogEntry.{LogEntry}
 use Rattle.group_quorum.specs.Conf.{Conf}
 use Rattle.group_quorum.specs.Sharing.{QuorumsOutlast, CountsOverlap}
 use Rattle.replica_model.specs.Path.{Path}

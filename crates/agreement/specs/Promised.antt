@@ -1,7 +1,7 @@
 -- Which paths were promised by quorums at each place, and when all promises keep to one path.
 use Rattle.std.specs.Prelude.{◌≡◌, ℕ, ◌*◌, ◌≤◌, Bool, false, ◌⊎◌, List, [], ◌∷◌, ◌++◌, count_by}
-use Rattle.svr_base.specs.declared.entry.Body.TheVariants.{Members}
-use Rattle.svr_base.specs.declared.entry.LogEntry.{LogEntry}
+use Rattle.values.specs.declared.entry.Body.TheVariants.{Members}
+use Rattle.values.specs.declared.entry.LogEntry.{LogEntry}
 use Rattle.group_quorum.specs.Conf.{Conf}
 use Rattle.replica_model.specs.Path.{Path}
 use Rattle.replica_model.specs.Configs.{conf}

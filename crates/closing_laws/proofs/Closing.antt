@@ -6,8 +6,8 @@ use Rattle.std.proofs.lemmas.Bool.{cond_both, ltb-true, ltb-false, and_parts, an
 use Rattle.std.proofs.lemmas.List.{length-take}
 use Rattle.group_quorum.specs.Conf.{Conf}
 use Rattle.group_quorum.specs.Voters.{is_in}
-use Rattle.svr_base.specs.declared.entry.Body.{Body}
-use Rattle.svr_base.specs.declared.entry.Body.TheVariants.{Noop, Ask, Members}
+use Rattle.values.specs.declared.entry.Body.{Body}
+use Rattle.values.specs.declared.entry.Body.TheVariants.{Noop, Ask, Members}
 use Rattle.replica_model.specs.Path.{Path}
 use Rattle.group_model.specs.Group.{Setup, bears, is_within}
 use Rattle.group_model.specs.Run.{Recorded, World}

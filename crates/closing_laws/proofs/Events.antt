@@ -7,12 +7,12 @@ use Rattle.std.proofs.lemmas.Option.{none-some}
 use Rattle.group_quorum.specs.Conf.{Conf}
 use Rattle.group_quorum.specs.Voters.{conf_of, is_in}
 use Rattle.group_quorum.specs.declared.ConfigFault.{ConfigFault}
-use Rattle.svr_base.specs.declared.event.Event.{Event}
-use Rattle.svr_base.specs.declared.event.Event.TheVariants as event
-use Rattle.svr_base.specs.declared.ids.ClientId.{ClientId}
-use Rattle.svr_base.specs.declared.want.WantFault.{WantFault}
+use Rattle.values.specs.declared.event.Event.{Event}
+use Rattle.values.specs.declared.event.Event.TheVariants as event
+use Rattle.values.specs.declared.ids.ClientId.{ClientId}
+use Rattle.values.specs.declared.want.WantFault.{WantFault}
 use Rattle.schedule_model.specs.Client.{Core, new_core, wanted}
-use Rattle.schedule_model.specs.Lines.{GroupRefusal}
+use Rattle.schedule_model.specs.Refusals.{GroupRefusal}
 use Rattle.replica_model.specs.Path.{Link}
 use Rattle.replica_model.specs.Keyed.{value_at}
 use Rattle.replica_model.specs.Message.{Message}
@@ -24,7 +24,7 @@ use Rattle.group_model.specs.Happens.{Happening, Happened, Broken, Unanswered, h
 use Rattle.group_model.specs.Run.{Enclaves, World, moves, newly, start_enclave, call_enclave, enclaves, group_after, run, empty_world}
 use Rattle.log_laws.proofs.Moving.{all_get}
 use Rattle.log_laws.proofs.History.{all_more}
-use Rattle.closing_laws.proofs.Tells.{AllTold, TellsState, path_more, state_later}
+use Rattle.closing_laws.proofs.Tells.{IsTable, TellsState, table_more, state_later}
 use Rattle.closing_laws.proofs.Moved.{IsFound, KeptRun, KnownHostInput, fresh_kept, moves_kept, call_kept, stopped_kept, enclave_later}
 
 -- the greatest index and the configurations that a world tells, against all that ever was in it
@@ -55,14 +55,14 @@ module _ (link : Link) (w g : World) (k : KeptWorld g) (same : KeptWorld w) wher
   unless_goes true refusal next goes = k
   unless_goes false refusal next goes = goes
 
-  replied_goes : (v : ℕ) (input : HostInput Message) (o : Option Enclave) → value_at g.field.running v ≡ o → KnownHostInput g.confs input → KeptWorld (group_after w (happening.replied (enclaves link) v g (call_enclave link g.field v input o)))
+  replied_goes : (v : ℕ) (input : HostInput Message) (o : Option Enclave) → value_at g.field.running v ≡ o → KnownHostInput g.committed g.confs input → KeptWorld (group_after w (happening.replied (enclaves link) v g (call_enclave link g.field v input o)))
   replied_goes v input None is x = same
   replied_goes v input (Some e) is x = call_kept g.setup g.committed g.confs g.messages g.field k link v e input is x
 
-  calls_goes : (v : ℕ) (input : HostInput Message) → KnownHostInput g.confs input → KeptWorld (group_after w (happening.calls (enclaves link) v input g))
+  calls_goes : (v : ℕ) (input : HostInput Message) → KnownHostInput g.committed g.confs input → KeptWorld (group_after w (happening.calls (enclaves link) v input g))
   calls_goes v input x = replied_goes v input (value_at g.field.running v) refl x
 
-  tells_goes : (v : ℕ) (input : HostInput Message) → KnownHostInput g.confs input → KeptWorld (group_after w (happening.tells (enclaves link) v input g))
+  tells_goes : (v : ℕ) (input : HostInput Message) → KnownHostInput g.committed g.confs input → KeptWorld (group_after w (happening.tells (enclaves link) v input g))
   tells_goes v input x = unless_goes (not (is_in g.running v)) _ (happening.calls (enclaves link) v input) (calls_goes v input x)
 
   rolled_goes : (v j : ℕ) (o : Option Enclave) → value_at g.field.running v ≡ o → KeptWorld (group_after w (happening.rolled (enclaves link) v g (call_enclave link g.field v (Roll j) o)))
@@ -84,7 +84,7 @@ module _ (link : Link) (w g : World) (k : KeptWorld g) (same : KeptWorld w) wher
   abbrev linked : ℕ → List ℕ → List ℕ → Enclaves → World
   linked x rs running f = group_after w (happening.connected (enclaves link) x rs f (λ f. Happened happening.Passed (record g { running = running; started = x ∷ g.started; field = f })))
 
-  linked_next : (x r : ℕ) (rs running : List ℕ) (f : Enclaves) → FieldKept f → ((f : Enclaves) → FieldKept f → KeptWorld (linked x rs running f)) → (o : Option Enclave) → value_at f.running r ≡ o → KeptWorld (group_after w (elim (call_enclave link f r (Connect x) o) [ Answers batch sent h ↦ happening.connected (enclaves link) x rs h (λ f. Happened happening.Passed (record g { running = running; started = x ∷ g.started; field = f })) | Unreadable ↦ Broken | Nothing ↦ Unanswered ]))
+  linked_next : (x r : ℕ) (rs running : List ℕ) (f : Enclaves) → FieldKept f → ((f : Enclaves) → FieldKept f → KeptWorld (linked x rs running f)) → (o : Option Enclave) → value_at f.running r ≡ o → KeptWorld (group_after w (elim (call_enclave link f r (Connect x) o) [ Answers batch sent h ↦ happening.connected (enclaves link) x rs h (λ f. Happened happening.Passed (record g { running = running; started = x ∷ g.started; field = f })) | Unreadable at g ↦ Broken at g | Nothing ↦ Unanswered ]))
   linked_next x r rs running f kept rest None is = same
   linked_next x r rs running f kept rest (Some e) is =
       rest (moves f r e.replica (Some (Connect x)) (called link e (Connect x))) (connect_kept g.setup g.committed g.confs g.messages link f x r e kept is)
@@ -117,14 +117,14 @@ module _ (link : Link) (w g : World) (k : KeptWorld g) (same : KeptWorld w) wher
   hears_goes c j (Some a) = unless_goes (not (is_client a.client c)) _ (happening.hears_with (enclaves link) c a (core_of g.cores c)) (hears_with_goes c a (core_of g.cores c))
 
 module _ (link : Link) (w g : World) (k : KeptWorld g) (same : KeptWorld w) where
-  delivers_goes : (j : ℕ) (o : Option (Sent Message)) → ((m : Sent Message) → o ≡ Some m → AllTold g.confs m.message.names.path) → KeptWorld (group_after w (happening.delivers (enclaves link) j o g))
+  delivers_goes : (j : ℕ) (o : Option (Sent Message)) → ((m : Sent Message) → o ≡ Some m → IsTable g.committed g.confs m.message.names.path) → KeptWorld (group_after w (happening.delivers (enclaves link) j o g))
   delivers_goes j None good = k
   delivers_goes j (Some m) good = unless_goes link w g k same (is_in g.lost j) _ (λ g. happening.running (enclaves link) m.to g (happening.hands (enclaves link) j m))
       (unless_goes link w g k same (not (is_in g.running m.to)) _ (happening.hands (enclaves link) j m) (calls_goes link w (record g { waiting = but j g.waiting }) k same m.to (Peer m.from m.to m.message) (good m refl)))
 
-  mail_at : (j : ℕ) (m : Sent Message) → numbered g.messages j ≡ Some m → AllTold g.confs m.message.names.path
+  mail_at : (j : ℕ) (m : Sent Message) → numbered g.messages j ≡ Some m → IsTable g.committed g.confs m.message.names.path
   mail_at zero m is = absurd (none-some m is)
-  mail_at (suc j) m is = all_get (λ (m : Sent Message). AllTold g.confs m.message.names.path) g.messages j m is k.mail
+  mail_at (suc j) m is = all_get (λ (m : Sent Message). IsTable g.committed g.confs m.message.names.path) g.messages j m is k.mail
 
   acts_goes : (e : Event) → KeptWorld (group_after w (happening.acts (enclaves link) e g))
   acts_goes (event.Begin margin limit voters) = k
@@ -152,7 +152,7 @@ module _ (link : Link) (w g : World) (k : KeptWorld g) (same : KeptWorld w) wher
   first_told c limit unset = record {
     first = inl refl;
     states = λ v e is. enclave_later g.committed g.committed (c ∷ []) g.confs e (omega arith) (k.states v e is);
-    mail = all_more (λ (m : Sent Message). AllTold g.confs m.message.names.path) (λ (m : Sent Message). AllTold (c ∷ g.confs) m.message.names.path) (λ m h. path_more (c ∷ []) g.confs m.message.names.path h) g.messages k.mail;
+    mail = all_more (λ (m : Sent Message). IsTable g.committed g.confs m.message.names.path) (λ (m : Sent Message). IsTable g.committed (c ∷ g.confs) m.message.names.path) (λ m h. table_more g.committed g.committed (c ∷ []) g.confs m.message.names.path (omega arith) h) g.messages k.mail;
     history = all_more (λ r. TellsState g.committed g.confs r.call.state) (λ r. TellsState g.committed (c ∷ g.confs) r.call.state) (λ r h. state_later g.committed g.committed (c ∷ []) g.confs r.call.state (omega arith) h) g.field.history k.history;
     reached = k.reached;
     found = (inl refl, all_more (IsFound g.setup g.field.history) (IsFound (Some (record { limit = limit; first = c })) g.field.history) (λ d h. held_again d (subst (λ o. IsFound o g.field.history d) unset h)) g.confs k.found);

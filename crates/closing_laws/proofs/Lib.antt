@@ -1,7 +1,7 @@
-mod Tells
+pub mod Tells
 mod Raised
 mod Rules
 mod Stepped
-mod Moved
-mod Events
-mod Closing
+pub mod Moved
+pub mod Events
+pub mod Closing

@@ -23,11 +23,11 @@ use Rattle.log_laws.proofs.Ending.{all-append}
 use Rattle.log_laws.proofs.Lookups.{put_cases, without_stood}
 use Rattle.log_laws.proofs.History.{all_more}
 use Rattle.log_laws.proofs.Moving.{all_get}
-use Rattle.closing_laws.proofs.Tells.{any_more, any_right, IsAmong, AllTold, Holds, NamesTold, TellsCall, TellsState, path_more, state_later, state_after}
+use Rattle.closing_laws.proofs.Tells.{any_more, any_right, IsAmong, IsTable, Holds, NamesTold, TellsCall, TellsState, table_more, none_from, state_later, state_after}
 use Rattle.closing_laws.proofs.Stepped.{IsKnownInput, step_tells}
 
-abbrev pub MailTold : List Conf → List (Sent Message) → Type 0
-MailTold confs messages = AllByRecursion (λ (m : Sent Message). AllTold confs m.message.names.path) messages
+abbrev pub MailTold : ℕ → List Conf → List (Sent Message) → Type 0
+MailTold seen confs messages = AllByRecursion (λ (m : Sent Message). IsTable seen confs m.message.names.path) messages
 
 -- the replica of an enclave is such, and each state of it that was saved
 pub record KeptEnclave (seen : ℕ) (confs : List Conf) (e : Enclave) : Type 0 where
@@ -43,7 +43,7 @@ IsFound setup history c =
 pub record KeptRun (setup : Option Setup) (seen : ℕ) (confs : List Conf) (messages : List (Sent Message)) (f : Enclaves) : Type 0 where
   pub first : IfSome setup (λ s. IsAmong confs s.first)
   pub states : (v : ℕ) (e : Enclave) → value_at f.running v ≡ Some e → KeptEnclave seen confs e
-  pub mail : MailTold confs messages
+  pub mail : MailTold seen confs messages
   pub history : AllByRecursion (λ (r : Recorded). TellsState seen confs (state_of r)) f.history
   pub reached : (seen ≡ 0) ⊎ AnyByRecursion (λ (r : Recorded). seen ≤ (state_of r).committed) f.history
   pub found : AllByRecursion (IsFound setup f.history) confs
@@ -54,17 +54,17 @@ enclave_later seen later new confs e le g = record {
   saved = all_more (TellsState seen confs) (TellsState later (new ++ confs)) (λ s h. state_later seen later new confs s le h) e.saved g.saved;
 }
 
-abbrev pub KnownHostInput : List Conf → HostInput Message → Type 0
-KnownHostInput confs Tick = Unit {0}
-KnownHostInput confs (Peer from to m) = AllTold confs m.names.path
-KnownHostInput confs (Client client number request) = Unit {0}
-KnownHostInput confs (Join id) = Unit {0}
-KnownHostInput confs (Admit id) = Unit {0}
-KnownHostInput confs (Remove id) = Unit {0}
-KnownHostInput confs Save = Unit {0}
-KnownHostInput confs (Roll state) = Unit {0}
-KnownHostInput confs (Connect id) = Unit {0}
-KnownHostInput confs (Margin margin) = Unit {0}
+abbrev pub KnownHostInput : ℕ → List Conf → HostInput Message → Type 0
+KnownHostInput seen confs Tick = Unit {0}
+KnownHostInput seen confs (Peer from to m) = IsTable seen confs m.names.path
+KnownHostInput seen confs (Client client number request) = Unit {0}
+KnownHostInput seen confs (Join id) = Unit {0}
+KnownHostInput seen confs (Admit id) = Unit {0}
+KnownHostInput seen confs (Remove id) = Unit {0}
+KnownHostInput seen confs Save = Unit {0}
+KnownHostInput seen confs (Roll state) = Unit {0}
+KnownHostInput seen confs (Connect id) = Unit {0}
+KnownHostInput seen confs (Margin margin) = Unit {0}
 
 -- a call of an enclave
 pub record KeptCalled (seen : ℕ) (confs : List Conf) (c : Called) : Type 0 where
@@ -76,7 +76,7 @@ module _ (link : Link) (seen : ℕ) (confs : List Conf) (e : Enclave) (g : KeptE
   stepped : (x : step.Input) → IsKnownInput seen confs link e.replica g.now x → KeptCalled seen confs (calls e (step_of link e.replica x))
   stepped x known = record { same = refl; call = step_tells seen confs link e.replica g.now x known; saved = g.saved }
 
-  accepted : (mine linked : Bool) (from to : ℕ) (m : Message) → AllTold confs m.names.path → KeptCalled seen confs (accepts mine linked link e from to m)
+  accepted : (mine linked : Bool) (from to : ℕ) (m : Message) → IsTable seen confs m.names.path → KeptCalled seen confs (accepts mine linked link e from to m)
   accepted false linked from to m x = record { same = refl; call = g.now; saved = g.saved }
   accepted true false from to m x = record { same = refl; call = g.now; saved = g.saved }
   accepted true true from to m x = stepped (step.Peer from m) x
@@ -89,7 +89,7 @@ module _ (link : Link) (seen : ℕ) (confs : List Conf) (e : Enclave) (g : KeptE
   rolls_kept k None is = record { same = refl; call = g.now; saved = g.saved }
   rolls_kept k (Some s) is = record { same = refl; call = all_get (TellsState seen confs) e.saved k s is g.saved; saved = g.saved }
 
-  pub called_kept : (input : HostInput Message) → KnownHostInput confs input → KeptCalled seen confs (called link e input)
+  pub called_kept : (input : HostInput Message) → KnownHostInput seen confs input → KeptCalled seen confs (called link e input)
   called_kept Tick x = stepped step.Tick tt
   called_kept (Peer from to m) x = accepted (to == e.replica.me) (is_in e.links from) from to m x
   called_kept (Client client number bytes) x = stepped (step.Client client number bytes) tt
@@ -103,8 +103,8 @@ module _ (link : Link) (seen : ℕ) (confs : List Conf) (e : Enclave) (g : KeptE
 
 -- a replica that has just started
 fresh_state : (seen : ℕ) (confs : List Conf) (hello : Hello) → TellsState seen confs (started_as hello).replica
-fresh_state seen confs (Begin id margin limit voters) = record { within = omega arith; fits = omega arith; below = omega arith; above = omega arith; told = tt; held = tt; sendings = tt; named = tt }
-fresh_state seen confs (Learn id linked) = record { within = omega arith; fits = omega arith; below = omega arith; above = omega arith; told = tt; held = tt; sendings = tt; named = tt }
+fresh_state seen confs (Begin id margin limit voters) = record { within = omega arith; fits = omega arith; below = omega arith; above = omega arith; told = tt; held = tt; sendings = tt; named = tt; from = none_from seen [] 0 (omega arith) }
+fresh_state seen confs (Learn id linked) = record { within = omega arith; fits = omega arith; below = omega arith; above = omega arith; told = tt; held = tt; sendings = tt; named = tt; from = none_from seen [] 0 (omega arith) }
 
 pub fresh_kept : (seen : ℕ) (confs : List Conf) (hello : Hello) → KeptEnclave seen confs (started_as hello)
 fresh_kept seen confs (Begin id margin limit voters) = let now = fresh_state seen confs (Begin id margin limit voters) in record { now = now; saved = (now, tt) }
@@ -131,9 +131,9 @@ module _ (setup : Option Setup) (seen : ℕ) (confs : List Conf) (messages : Lis
       saved = all_more (TellsState seen confs) (TellsState later (new ++ confs)) (λ s h. state_later seen later new confs s (omega arith) h) c.enclave.saved g.saved;
     }
 
-    mailed : (sent : List (ℕ × Message)) → NamesTold (new ++ confs) sent → MailTold (new ++ confs) (map (sent_by v) sent)
+    mailed : (sent : List (ℕ × Message)) → NamesTold seen (new ++ confs) sent → MailTold later (new ++ confs) (map (sent_by v) sent)
     mailed [] h = tt
-    mailed (m ∷ sent) h = (h.0, mailed sent h.1)
+    mailed (m ∷ sent) h = (table_more seen later [] (new ++ confs) m.1.names.path (omega arith) h.0, mailed sent h.1)
 
     reached_after : (later ≡ 0) ⊎ AnyByRecursion (λ (r : Recorded). later ≤ (state_of r).committed) (now ∷ f.history)
     reached_after = elim (cases_lt seen (committed_in c.call.batch)) [
@@ -155,8 +155,8 @@ module _ (setup : Option Setup) (seen : ℕ) (confs : List Conf) (messages : Lis
         | inl here ↦ subst (KeptEnclave later (new ++ confs)) (same_Some c.enclave e (sym here.1 ∙ is)) enclave_after
         | inr there ↦ enclave_later seen later new confs e (omega arith) (k.states u e (sym there.1 ∙ is))
       ];
-      mail = all-append (λ (m : Sent Message). AllTold (new ++ confs) m.message.names.path) messages (map (sent_by v) c.call.sent)
-          (all_more (λ (m : Sent Message). AllTold confs m.message.names.path) (λ (m : Sent Message). AllTold (new ++ confs) m.message.names.path) (λ m h. path_more new confs m.message.names.path h) messages k.mail)
+      mail = all-append (λ (m : Sent Message). IsTable later (new ++ confs) m.message.names.path) messages (map (sent_by v) c.call.sent)
+          (all_more (λ (m : Sent Message). IsTable seen confs m.message.names.path) (λ (m : Sent Message). IsTable later (new ++ confs) m.message.names.path) (λ m h. table_more seen later new confs m.message.names.path (omega arith) h) messages k.mail)
           (mailed c.call.sent g.call.named);
       history = (after, all_more (λ (r : Recorded). TellsState seen confs (state_of r)) (λ (r : Recorded). TellsState later (new ++ confs) (state_of r)) (λ r h. state_later seen later new confs (state_of r) (omega arith) h) f.history k.history);
       reached = reached_after;
@@ -170,7 +170,7 @@ module _ (setup : Option Setup) (seen : ℕ) (confs : List Conf) (messages : Lis
         first_kept (Some s) h = any_right (λ d. d ≡ s.first) new confs h
 
   -- a replica that runs is called
-  pub call_kept : (link : Link) (v : ℕ) (e : Enclave) (input : HostInput Message) → value_at f.running v ≡ Some e → KnownHostInput confs input
+  pub call_kept : (link : Link) (v : ℕ) (e : Enclave) (input : HostInput Message) → value_at f.running v ≡ Some e → KnownHostInput seen confs input
       → KeptRun setup (max seen (committed_in (called link e input).call.batch)) (map conf_told (called link e input).call.batch.members ++ confs) (messages ++ map (sent_by v) (called link e input).call.sent) (moves f v e.replica (Some input) (called link e input))
   call_kept link v e input is x = moves_kept v e.replica (Some input) (called link e input) (called_kept link seen confs e (k.states v e is) input x)
 

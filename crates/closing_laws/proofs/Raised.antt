@@ -1,12 +1,12 @@
 -- A committed index that rises is told, and the end of a call tells no more.
-use Rattle.std.proofs.Common.{◌≡◌, ℕ, ◌+◌, ◌-◌, ◌<◌, ◌≤◌, Bool, not, ◌&&◌, nat_le, max, inl, inr, Option, Some, None, List, [], ◌∷◌, ◌++◌, length, take, drop, map, refl, sym, subst, arith}
+use Rattle.std.proofs.Common.{◌≡◌, ℕ, zero, suc, ap, append-nil, ◌∙◌, ◌+◌, ◌-◌, ◌<◌, ◌≤◌, Bool, not, ◌&&◌, nat_le, max, inl, inr, Option, Some, None, List, [], ◌∷◌, ◌++◌, length, take, drop, map, refl, sym, subst, arith}
 use Rattle.std.specs.Prelude.{fold}
 use Rattle.std.proofs.lemmas.Bool.{cond_both, cases_lt, cases_eq}
 use Rattle.std.proofs.lemmas.List.{length-take, length-drop}
 use Rattle.std.proofs.lemmas.Grind.{fold-append}
 use Rattle.group_quorum.specs.Conf.{Conf}
-use Rattle.svr_base.specs.declared.entry.Hash.{Hash}
-use Rattle.svr_base.specs.declared.entry.LogEntry.{LogEntry}
+use Rattle.values.specs.declared.entry.Hash.{Hash}
+use Rattle.values.specs.declared.entry.LogEntry.{LogEntry}
 use Rattle.replica_model.specs.Path.{Path, Link}
 use Rattle.replica_model.specs.Configs.{conf_index}
 use Rattle.replica_model.specs.Message.{Message}
@@ -19,7 +19,7 @@ use Rattle.replica_model.specs.Send.{can_append, appended_to, send_append, send_
 use Rattle.replica_model.proofs.Greatest.{greatest}
 use Rattle.group_model.specs.Group.{committed_in, conf_told, taken_index}
 use Rattle.log_laws.proofs.Ending.{all-append}
-use Rattle.closing_laws.proofs.Tells.{AllTold, SendingsTold, Tells, TellsCall}
+use Rattle.closing_laws.proofs.Tells.{IsTable, SendingsTold, TellsFrom, drop_past, Tells, TellsCall}
 
 -- the greatest index of these and n
 abbrev reach : ℕ → List (ℕ × LogEntry) → ℕ
@@ -46,6 +46,49 @@ greatest_to passes had top le =
       | inr more ↦ is.within more
     ]
 
+-- what follows an index is what follows it up to a later one, and then the rest
+drop_to : {A : Type 0} (k m i : ℕ) (xs : List A) → k ≤ m → m ≤ i → drop k (take i xs) ≡ drop k (take m xs) ++ drop m (take i xs)
+drop_to zero zero i xs a b = refl
+drop_to zero (suc m) zero xs a b = absurd (omega arith)
+drop_to zero (suc m) (suc i) [] a b = refl
+drop_to zero (suc m) (suc i) (x ∷ xs) a b = ap (λ ys. x ∷ ys) (drop_to zero m i xs (omega arith) (omega arith))
+drop_to (suc k) zero i xs a b = absurd (omega arith)
+drop_to (suc k) (suc m) zero xs a b = absurd (omega arith)
+drop_to (suc k) (suc m) (suc i) [] a b = refl
+drop_to (suc k) (suc m) (suc i) (x ∷ xs) a b = drop_to k m i xs (omega arith) (omega arith)
+
+numbered_append : (k n : ℕ) (xs ys : Path) → n ≡ k + length xs → numbered_from k (xs ++ ys) ≡ numbered_from k xs ++ numbered_from n ys
+numbered_append k n [] ys is = ap (λ j. numbered_from j ys) (omega arith)
+numbered_append k n (x ∷ xs) ys is = ap (λ zs. (k, x) ∷ zs) (numbered_append (k + 1) n xs ys (omega arith))
+
+more_from : (seen : ℕ) (path : Path) (committed i : ℕ) (commits : List (ℕ × LogEntry)) → committed ≤ length path → TellsFrom seen path committed commits
+    → TellsFrom seen path (max committed i) (commits ++ numbered_from (committed + 1) (drop committed (take i path)))
+more_from seen path committed i commits fits g = elim (cases_lt committed i) [
+  | inl rises ↦
+      let is : max committed i ≡ i = omega arith in
+      let long : length (drop g.start (take committed path)) ≡ committed - g.start = omega (arith, length-drop g.start (take committed path), length-take committed path, fits) in
+      record {
+        start = g.start;
+        known = g.known;
+        upto = omega (arith, g.upto);
+        are = ap (λ xs. xs ++ numbered_from (committed + 1) (drop committed (take i path))) g.are
+            ∙ sym (numbered_append (g.start + 1) (committed + 1) (drop g.start (take committed path)) (drop committed (take i path)) (omega (arith, long, g.upto)))
+            ∙ ap (numbered_from (g.start + 1)) (sym (drop_to g.start committed i path g.upto (omega arith)))
+            ∙ ap (λ (n : ℕ). numbered_from (g.start + 1) (drop g.start (take n path))) (sym is);
+      }
+  | inr stays ↦
+      let is : max committed i ≡ committed = omega arith in
+      record {
+        start = g.start;
+        known = g.known;
+        upto = omega (arith, g.upto);
+        are = ap (λ xs. xs ++ numbered_from (committed + 1) (drop committed (take i path))) g.are
+            ∙ ap (λ xs. numbered_from (g.start + 1) (drop g.start (take committed path)) ++ numbered_from (committed + 1) xs) (drop_past committed (take i path) (omega (arith, length-take i path, stays)))
+            ∙ append-nil (numbered_from (g.start + 1) (drop g.start (take committed path)))
+            ∙ ap (λ (n : ℕ). numbered_from (g.start + 1) (drop g.start (take n path))) (sym is);
+      }
+]
+
 module _ (seen : ℕ) (confs : List Conf) where
   -- the committed index rises
   pub commit_tells : (c : Call) (i : ℕ) → i ≤ c.state.promised → TellsCall seen confs c → TellsCall seen confs (commit_to c i)
@@ -55,7 +98,7 @@ module _ (seen : ℕ) (confs : List Conf) where
       let long : length more ≡ i - s.committed = omega (arith, length-drop s.committed (take i s.path), length-take i s.path, upto, g.fits) in
       let same : reach (taken_index c.batch.taken) (c.batch.commits ++ numbered_from (s.committed + 1) more) ≡ reach (committed_in c.batch) (numbered_from (s.committed + 1) more) =
       fold-append (λ (n : ℕ) (c : ℕ × LogEntry). max n c.0) (taken_index c.batch.taken) c.batch.commits (numbered_from (s.committed + 1) more) in
-      subst (λ reached. Tells seen confs s.path (max s.committed i) s.promised s.role reached (map conf_told c.batch.members) c.sent) (sym same)
+      subst (λ reached. Tells seen confs s.path (max s.committed i) s.promised s.role reached (c.batch.commits ++ numbered_from (s.committed + 1) more) (map conf_told c.batch.members) c.sent) (sym same)
       (record {
         within = omega (arith, g.within, upto);
         fits = g.fits;
@@ -68,6 +111,7 @@ module _ (seen : ℕ) (confs : List Conf) where
         held = g.held;
         sendings = g.sendings;
         named = g.named;
+        from = more_from seen s.path s.committed i c.batch.commits (omega (arith, g.within, g.fits)) g.from;
       })
 
   pub raise_tells : (c : Call) (l : Leading) → TellsCall seen confs c → TellsCall seen confs (raise c l)
@@ -78,7 +122,7 @@ module _ (seen : ℕ) (confs : List Conf) where
       let fits : promise_index s l ≤ length s.path = greatest_to (may_promise s l) s.promised (length s.path) g.fits in
       let within : s.committed ≤ promise_index s l = omega (arith, g.within, up) in
       commit_tells raised (commit_index raised.state l) (greatest_to (may_commit raised.state l) s.committed (promise_index s l) within)
-      (record { within = within; fits = fits; below = g.below; above = g.above; told = g.told; held = g.held; sendings = g.sendings; named = g.named })
+      (record { within = within; fits = fits; below = g.below; above = g.above; told = g.told; held = g.held; sendings = g.sendings; named = g.named; from = g.from })
 
   -- an append names nothing
   append_tells : (link : Link) (c : Call) (role : Role) (u : ℕ) → c.state.role ≡ role → TellsCall seen confs c → TellsCall seen confs (send_append link c role u)
@@ -93,8 +137,9 @@ module _ (seen : ℕ) (confs : List Conf) where
         above = g.above;
         told = g.told;
         held = g.held;
-        sendings = subst (SendingsTold (map conf_told c.batch.members ++ confs)) is g.sendings;
-        named = all-append (λ (m : ℕ × Message). AllTold (map conf_told c.batch.members ++ confs) m.1.names.path) c.sent _ g.named (tt, tt);
+        sendings = subst (SendingsTold seen (map conf_told c.batch.members ++ confs)) is g.sendings;
+        named = all-append (λ (m : ℕ × Message). IsTable seen (map conf_told c.batch.members ++ confs) m.1.names.path) c.sent _ g.named (tt, tt);
+        from = g.from;
       })
       (λ b. g)
 
@@ -107,7 +152,7 @@ module _ (seen : ℕ) (confs : List Conf) where
   stopped_tells c Follower is g = g
   stopped_tells c (Candidate votes) is g = g
   stopped_tells c (Leader l) is g = cond_both (not (is_voter c.state) && nat_le (conf_index c.state.path) c.state.committed) (record (c.state) { role = Follower; known = 0 }) c.state (λ s. TellsCall seen confs (record c { state = s }))
-      (λ b. record { within = g.within; fits = g.fits; below = g.below; above = g.above; told = g.told; held = g.held; sendings = tt; named = g.named })
+      (λ b. record { within = g.within; fits = g.fits; below = g.below; above = g.above; told = g.told; held = g.held; sendings = tt; named = g.named; from = g.from })
       (λ b. g)
 
   pub ended_tells : (link : Link) (c : Call) (halted : Option (ℕ × Hash × Hash)) → TellsCall seen confs c → TellsCall seen confs (ended link c halted)

@@ -5,17 +5,17 @@ use Rattle.std.specs.List.{AllByRecursion, cons_option}
 use Rattle.std.proofs.lemmas.Bool.{cond_both, ltb-false, leb-false, eqb-false}
 use Rattle.std.proofs.lemmas.List.{length-take, length-drop, length-append}
 use Rattle.std.proofs.lemmas.Option.{none-some, same_Some}
-use Rattle.svr_base.specs.declared.batch.Refusal.{Refusal}
-use Rattle.svr_base.specs.declared.entry.Body.{Body}
-use Rattle.svr_base.specs.declared.entry.Body.TheVariants.{Noop, Ask, Members}
-use Rattle.svr_base.specs.declared.entry.Hash.{Hash}
-use Rattle.svr_base.specs.declared.entry.LogEntry.{LogEntry}
-use Rattle.svr_base.specs.declared.entry.Point.{Point}
-use Rattle.svr_base.specs.declared.ids.ClientId.{ClientId}
-use Rattle.svr_base.specs.declared.message.Request.{Request}
-use Rattle.svr_base.specs.declared.peer.TablePart.{TablePart}
-use Rattle.svr_base.specs.declared.peer.PeerMsg.{PeerMsg}
-use Rattle.svr_base.specs.declared.peer.PeerMsg.TheVariants.{AskVote, Vote, Append, Accepted, Rejected, Part, PartTaken}
+use Rattle.values.specs.declared.batch.Refusal.{Refusal}
+use Rattle.values.specs.declared.entry.Body.{Body}
+use Rattle.values.specs.declared.entry.Body.TheVariants.{Noop, Ask, Members}
+use Rattle.values.specs.declared.entry.Hash.{Hash}
+use Rattle.values.specs.declared.entry.LogEntry.{LogEntry}
+use Rattle.values.specs.declared.entry.Point.{Point}
+use Rattle.values.specs.declared.ids.ClientId.{ClientId}
+use Rattle.values.specs.declared.message.Request.{Request}
+use Rattle.values.specs.declared.peer.TablePart.{TablePart}
+use Rattle.values.specs.declared.peer.PeerMsg.{PeerMsg}
+use Rattle.values.specs.declared.peer.PeerMsg.TheVariants.{AskVote, Vote, Append, Accepted, Rejected, Part, PartTaken}
 use Rattle.client_msgs.specs.Canonical.{canonical_request}
 use Rattle.client_msgs.specs.declared.fault.RequestFault.{RequestFault}
 use Rattle.client_msgs.specs.declared.fault.RequestFault.TheVariants as faults
@@ -25,10 +25,10 @@ use Rattle.replica_model.specs.Path.{Path, Link, same_point, end_point, last_ter
 use Rattle.replica_model.specs.Keyed.{value_at, put, without}
 use Rattle.replica_model.specs.Message.{Message, plain}
 use Rattle.replica_model.specs.Replica.{Named, Sending, Taking, Role, Learner, Follower, Candidate, Leader, Leading, Replica}
-use Rattle.replica_model.specs.Peers.{is_peer, others, voters_counted, progress_of, with_progress, leads_with, newest, with_id, peers}
+use Rattle.replica_model.specs.Peers.{is_peer, others, voters_counted, progress_of, with_progress, leads_with, newest, peers}
 use Rattle.replica_model.specs.Call.{Call, empty_batch, still}
 use Rattle.replica_model.specs.Raise.{numbered_from, pushed, raise, raise_and_send, to_every_peer}
-use Rattle.replica_model.specs.Votes.{is_elected, leading_anew, led, win, stood, asks_votes, stands, stand, as_new, vote_asked, counted, vote_heard}
+use Rattle.replica_model.specs.Votes.{is_elected, leading_anew, led, win, stood, asks_votes, stands, stand, as_new, vote_asked, counted, with_vote, vote_heard}
 use Rattle.replica_model.specs.Clients.{asked, is_busy, request_heard, valid_request, on_request}
 use Rattle.replica_model.specs.Graft.{Offer, points_of, end_of, Difference, first_difference, kept_length, added, members_of, differs_at, refusal_hint, following, answered, spliced, replaced, grafted, graft, halts, conflict_or_graft, append_heard, matches}
 use Rattle.replica_model.specs.Heard.{to_peer, accepted_upto, accepted_by, accepted_heard, sent_from, rejected_by, rejected_heard}
@@ -41,7 +41,7 @@ use Rattle.log_laws.proofs.Ending.{all-append}
 use Rattle.log_laws.proofs.History.{all_more}
 use Rattle.log_laws.proofs.Lookups.{put_cases, without_stood}
 use Rattle.log_laws.proofs.Offered.{found_within}
-use Rattle.closing_laws.proofs.Tells.{any_right, all_take, IsTold, AllTold, IsOf, Holds, SendingsTold, NamesTold, Tells, TellsCall, TellsState, path_more, sendings_more}
+use Rattle.closing_laws.proofs.Tells.{any_right, all_take, IsTold, AllTold, IsOf, Holds, SendingsTold, NamesTold, IsTable, table_from, table_told, table_short, none_from, Tells, TellsCall, TellsState, path_more, sendings_more}
 use Rattle.closing_laws.proofs.Raised.{commit_tells, raise_tells}
 
 -- ---- the configurations of entries that are added
@@ -85,14 +85,14 @@ IsCalm s (Some d) = s.promised < d.0
 module _ (seen : ℕ) (confs : List Conf) (link : Link) where
   module _ (s : Replica) (g : TellsState seen confs s) where
     -- nothing moves but the role, and some messages are sent
-    in_role : (role : Role) → SendingsTold confs role → (sent : List (ℕ × Message)) → NamesTold confs sent → Tells seen confs s.path s.committed s.promised role 0 [] sent
-    in_role role sendings sent named = record { within = g.within; fits = g.fits; below = g.below; above = g.above; told = g.told; held = tt; sendings = sendings; named = named }
+    in_role : (role : Role) → SendingsTold seen confs role → (sent : List (ℕ × Message)) → NamesTold seen confs sent → Tells seen confs s.path s.committed s.promised role 0 [] [] sent
+    in_role role sendings sent named = record { within = g.within; fits = g.fits; below = g.below; above = g.above; told = g.told; held = tt; sendings = sendings; named = named; from = none_from seen s.path s.committed (omega (arith, g.below)) }
 
-    pub saying : (m : ℕ × Message) → NamesTold confs (m ∷ []) → Tells seen confs s.path s.committed s.promised s.role 0 [] (m ∷ [])
+    pub saying : (m : ℕ × Message) → NamesTold seen confs (m ∷ []) → Tells seen confs s.path s.committed s.promised s.role 0 [] [] (m ∷ [])
     saying m named = in_role s.role g.sendings (m ∷ []) named
 
     -- one entry is pushed
-    push_tells : (e : LogEntry) (l : Leading) (new : List Conf) → SendingsTold confs (Leader l) → IsTold (new ++ confs) e.body → AllByRecursion (Holds (s.path ++ e ∷ [])) new → Tells seen confs (s.path ++ e ∷ []) s.committed s.promised (Leader l) 0 new []
+    push_tells : (e : LogEntry) (l : Leading) (new : List Conf) → SendingsTold seen confs (Leader l) → IsTold (new ++ confs) e.body → AllByRecursion (Holds (s.path ++ e ∷ [])) new → Tells seen confs (s.path ++ e ∷ []) s.committed s.promised (Leader l) 0 [] new []
     push_tells e l new sendings told held = record {
       within = g.within;
       fits = omega (arith, g.fits, length-append s.path (e ∷ []));
@@ -100,8 +100,9 @@ module _ (seen : ℕ) (confs : List Conf) (link : Link) where
       above = g.above;
       told = all-append (λ (e : LogEntry). IsTold (new ++ confs) e.body) s.path (e ∷ []) (path_more new confs s.path g.told) (told, tt);
       held = held;
-      sendings = sendings_more new confs (Leader l) sendings;
+      sendings = sendings_more seen seen new confs (Leader l) (omega arith) sendings;
       named = tt;
+      from = none_from seen (s.path ++ e ∷ []) s.committed (omega (arith, g.below));
     }
 
     win_tells : TellsCall seen confs (win s)
@@ -110,7 +111,7 @@ module _ (seen : ℕ) (confs : List Conf) (link : Link) where
         raise_tells seen confs (record (still (pushed (led s l) Noop)) { batch = record empty_batch { lead = Some s.term } }) l
         (push_tells (record { term = s.term; body = Noop }) l [] (λ v x is. absurd (none-some x is)) tt tt)
 
-    asks_named : (m : PeerMsg) (ids : List ℕ) → NamesTold confs (map (λ u. (u, plain m)) ids)
+    asks_named : (m : PeerMsg) (ids : List ℕ) → NamesTold seen confs (map (λ u. (u, plain m)) ids)
     asks_named m [] = tt
     asks_named m (u ∷ ids) = (tt, asks_named m ids)
 
@@ -120,7 +121,7 @@ module _ (seen : ℕ) (confs : List Conf) (link : Link) where
         (λ b. in_role s.role g.sendings _ (asks_named (AskVote s.term (length s.path) (last_term s.path)) (others s.me (voters_counted s))))
 
   -- the same state in another role
-  pub turned : (s : Replica) (role : Role) → TellsState seen confs s → SendingsTold confs role → TellsState seen confs (record s { role = role })
+  pub turned : (s : Replica) (role : Role) → TellsState seen confs s → SendingsTold seen confs role → TellsState seen confs (record s { role = role })
   turned s role g sendings = in_role s g role sendings [] tt
 
   module _ (s : Replica) (g : TellsState seen confs s) where
@@ -142,8 +143,8 @@ module _ (seen : ℕ) (confs : List Conf) (link : Link) where
     pub vote_heard_tells : (role : Role) (from : ℕ) (granted : Bool) → TellsCall seen confs (vote_heard s role from granted)
     vote_heard_tells (Learner taking) from granted = g
     vote_heard_tells Follower from granted = g
-    vote_heard_tells (Candidate votes) from granted = cond_both granted (counted s (with_id from votes)) (still s) (TellsCall seen confs)
-        (λ b. counted_tells (with_id from votes))
+    vote_heard_tells (Candidate votes) from granted = cond_both granted (counted s (with_vote s votes from)) (still s) (TellsCall seen confs)
+        (λ b. counted_tells (with_vote s votes from))
         (λ b. g)
     vote_heard_tells (Leader l) from granted = g
 
@@ -166,6 +167,7 @@ module _ (seen : ℕ) (confs : List Conf) (link : Link) where
           held = all_more (Holds (added k o)) (Holds (take k s.path ++ added k o)) (λ c h. any_right (λ (e : LogEntry). IsOf c e.body) (take k s.path) (added k o) h) new (added_held (k + 1) (added k o));
           sendings = tt;
           named = tt;
+          from = none_from seen (take k s.path ++ added k o) s.committed (omega (arith, g.below));
         }
 
     grafted_tells : (d : Option Difference) (o : Offer) → s.promised ≤ kept_length s.path d → kept_length s.path d ≤ length s.path → o.prev.index ≤ kept_length s.path d → TellsCall seen confs (grafted (following s o.from) d o)
@@ -177,13 +179,13 @@ module _ (seen : ℕ) (confs : List Conf) (link : Link) where
     answered_tells d o found calm (Some hint) is = in_role s g Follower tt _ (tt, tt)
     answered_tells None o found calm None is =
         let c = grafted_tells None o g.fits (omega arith) (not_refused (following s o.from) None o is).0 in
-        record { within = c.within; fits = c.fits; below = c.below; above = c.above; told = c.told; held = c.held; sendings = c.sendings; named = (tt, tt) }
+        record { within = c.within; fits = c.fits; below = c.below; above = c.above; told = c.told; held = c.held; sendings = c.sendings; named = (tt, tt); from = c.from }
     answered_tells (Some d) o found calm None is =
         let fine = not_refused (following s o.from) (Some d) o is in
         let at = found_within link s o.prev.index o.prev.hash o.entries d found in
         let apart = eqb-false d.0 o.prev.index fine.1 in
         let c = grafted_tells (Some d) o (omega (arith, calm)) (omega (arith, at.1)) (omega (arith, at.0, apart)) in
-        record { within = c.within; fits = c.fits; below = c.below; above = c.above; told = c.told; held = c.held; sendings = c.sendings; named = (tt, tt) }
+        record { within = c.within; fits = c.fits; below = c.below; above = c.above; told = c.told; held = c.held; sendings = c.sendings; named = (tt, tt); from = c.from }
 
     pub append_heard_tells : (o : Offer) → TellsCall seen confs (append_heard link s o)
     append_heard_tells o = judged (first_difference link s (points_of link o)) refl
@@ -203,9 +205,9 @@ module _ (seen : ℕ) (confs : List Conf) (link : Link) where
         (λ b. g)
         (λ b.
         let e : LogEntry = record { term = s.term; body = Ask client number (canonical_request request) } in
-        let pushed_to = push_tells s g e l [] (subst (SendingsTold confs) is g.sendings) tt tt in
+        let pushed_to = push_tells s g e l [] (subst (SendingsTold seen confs) is g.sendings) tt tt in
         raise_tells seen confs (still (asked s client number request)) l
-        (record { within = pushed_to.within; fits = pushed_to.fits; below = g.below; above = g.above; told = pushed_to.told; held = tt; sendings = g.sendings; named = tt }))
+        (record { within = pushed_to.within; fits = pushed_to.fits; below = g.below; above = g.above; told = pushed_to.told; held = tt; sendings = g.sendings; named = tt; from = pushed_to.from }))
 
     valid_tells : (halted : Option (ℕ × Hash × Hash)) (client : ClientId) (number : ℕ) (request : Request) → TellsCall seen confs (valid_request s halted client number request)
     valid_tells (Some d) client number request = g
@@ -225,13 +227,25 @@ module _ (seen : ℕ) (confs : List Conf) (link : Link) where
         (λ b. saying s g (from, plain (Rejected s.term part.point.index (cond (nat_lt (length s.path) part.point.index) (length s.path) s.promised))) (tt, tt))
 
   -- what a learner hears
-  module _ (s : Replica) (g : TellsState seen confs s) (from : ℕ) (names : Named) (known : AllTold confs names.path) where
+  module _ (s : Replica) (g : TellsState seen confs s) (from : ℕ) (names : Named) (known : IsTable seen confs names.path) where
     part_tells : (t : Taking) (term : ℕ) (part : TablePart) → TellsCall seen confs (take_part link (record s { term = term }) t from part names)
     part_tells t term part =
         let t' : Taking = taken_with t part names in
         cond_both (is_taken link t part) (takes link (record s { term = term }) from t' part names) _ (TellsCall seen confs)
         (λ taken. cond_both (part.part + 1 == part.parts) (takes_whole link (record s { term = term }) from part names t'.names.limit) (expects link (record s { term = term; role = Learner t' }) from t') (TellsCall seen confs)
-        (λ b. record { within = omega arith; fits = omega arith; below = omega arith; above = omega arith; told = known; held = tt; sendings = tt; named = (tt, tt) })
+        (λ b.
+        let short = table_short seen confs names.path known in
+        record {
+          within = omega arith;
+          fits = omega arith;
+          below = omega arith;
+          above = omega arith;
+          told = table_told seen confs names.path known;
+          held = tt;
+          sendings = tt;
+          named = (tt, tt);
+          from = none_from seen names.path (length names.path) short;
+        })
         (λ b. in_role s g (Learner t') tt _ (tt, tt)))
         (λ b. saying s g _ (tt, tt))
 
@@ -245,21 +259,21 @@ module _ (seen : ℕ) (confs : List Conf) (link : Link) where
     learner_tells t (PartTaken term point next) = g
 
   -- ---- what a leader hears
-  module _ (s : Replica) (g : TellsState seen confs s) (l : Leading) (mine : SendingsTold confs (Leader l)) where
-    leading : (l' : Leading) → SendingsTold confs (Leader l') → (sent : List (ℕ × Message)) → NamesTold confs sent → Tells seen confs s.path s.committed s.promised (Leader l') 0 [] sent
+  module _ (s : Replica) (g : TellsState seen confs s) (l : Leading) (mine : SendingsTold seen confs (Leader l)) where
+    leading : (l' : Leading) → SendingsTold seen confs (Leader l') → (sent : List (ℕ × Message)) → NamesTold seen confs sent → Tells seen confs s.path s.committed s.promised (Leader l') 0 [] [] sent
     leading l' sendings sent named = in_role s g (Leader l') sendings sent named
 
     -- a sending ends, or another is put in its place
-    ended_sending : (u : ℕ) → SendingsTold confs (Leader (record l { sendings = without l.sendings u }))
+    ended_sending : (u : ℕ) → SendingsTold seen confs (Leader (record l { sendings = without l.sendings u }))
     ended_sending u v x is = mine v x (without_stood l.sendings u v x is)
 
-    put_sending : (u : ℕ) (y : Sending) → AllTold confs y.path → (v : ℕ) (x : Sending) → value_at (put l.sendings u y) v ≡ Some x → AllTold confs x.path
+    put_sending : (u : ℕ) (y : Sending) → IsTable seen confs y.path → (v : ℕ) (x : Sending) → value_at (put l.sendings u y) v ≡ Some x → IsTable seen confs x.path
     put_sending u y told v x is = elim (put_cases l.sendings u y v) [
-      | inl new ↦ subst (λ (z : Sending). AllTold confs z.path) (same_Some y x (sym new.1 ∙ is)) told
+      | inl new ↦ subst (λ (z : Sending). IsTable seen confs z.path) (same_Some y x (sym new.1 ∙ is)) told
       | inr old ↦ mine v x (sym old.1 ∙ is)
     ]
 
-    accepted_by_tells : (l' : Leading) (u : ℕ) → SendingsTold confs (Leader l') → TellsCall seen confs (accepted_by s l' u)
+    accepted_by_tells : (l' : Leading) (u : ℕ) → SendingsTold seen confs (Leader l') → TellsCall seen confs (accepted_by s l' u)
     accepted_by_tells l' u sendings =
         let c : Call = raise (still (leads_with s l')) l' in
         let fine : TellsCall seen confs c = raise_tells seen confs (still (leads_with s l')) l' (leading l' sendings [] tt) in
@@ -286,7 +300,7 @@ module _ (seen : ℕ) (confs : List Conf) (link : Link) where
         (λ b. leading (with_progress l' from (record (progress_of l' from) { next = next })) (ended_sending from) [] tt)))
         (λ b. g)
 
-    sending_tells : (from : ℕ) (sending : Sending) → AllTold confs sending.path → (next parts : ℕ) → TellsCall seen confs (sending_heard link s l from sending next parts)
+    sending_tells : (from : ℕ) (sending : Sending) → IsTable seen confs sending.path → (next parts : ℕ) → TellsCall seen confs (sending_heard link s l from sending next parts)
     sending_tells from sending told next parts =
         let on : Sending = record sending { part = next } in
         cond_both (next == parts) (sending_done s l from (length sending.path)) _ (TellsCall seen confs)
@@ -307,18 +321,18 @@ module _ (seen : ℕ) (confs : List Conf) (link : Link) where
         (λ b. g)
 
     -- a leader's tick
-    one_part : (u : ℕ) (o : Option Sending) (sent : List (ℕ × Message)) → value_at l.sendings u ≡ o → NamesTold confs sent → NamesTold confs (cons_option (option_map (λ sending. (u, part_message link s sending)) o) sent)
+    one_part : (u : ℕ) (o : Option Sending) (sent : List (ℕ × Message)) → value_at l.sendings u ≡ o → NamesTold seen confs sent → NamesTold seen confs (cons_option (option_map (λ sending. (u, part_message link s sending)) o) sent)
     one_part u None sent is fine = fine
     one_part u (Some sending) sent is fine = (mine u sending is, fine)
 
-    parts_named : (us : List ℕ) → NamesTold confs (filter_map (λ u. option_map (λ sending. (u, part_message link s sending)) (value_at l.sendings u)) us)
+    parts_named : (us : List ℕ) → NamesTold seen confs (filter_map (λ u. option_map (λ sending. (u, part_message link s sending)) (value_at l.sendings u)) us)
     parts_named [] = tt
     parts_named (u ∷ us) = one_part u (value_at l.sendings u) _ refl (parts_named us)
 
-    again_told : (us : List ℕ) (l' : Leading) → SendingsTold confs (Leader l') → SendingsTold confs (Leader (all_again s l' us))
+    again_told : (us : List ℕ) (l' : Leading) → SendingsTold seen confs (Leader l') → SendingsTold seen confs (Leader (all_again s l' us))
     again_told [] l' told = told
     again_told (u ∷ us) l' told = again_told us (cond (has l'.sendings u) l' (with_progress l' u (sent_again s (progress_of l' u))))
-        (cond_both (has l'.sendings u) l' (with_progress l' u (sent_again s (progress_of l' u))) (λ x. SendingsTold confs (Leader x)) (λ b. told) (λ b. told))
+        (cond_both (has l'.sendings u) l' (with_progress l' u (sent_again s (progress_of l' u))) (λ x. SendingsTold seen confs (Leader x)) (λ b. told) (λ b. told))
 
     pub leader_tick_tells : TellsCall seen confs (leader_tick link s l)
     leader_tick_tells = leading (all_again s l (peers s l)) (again_told (peers s l) l mine) (parts_again link s l) (parts_named (peers s l))
@@ -328,7 +342,7 @@ module _ (seen : ℕ) (confs : List Conf) (link : Link) where
     unless_tells (Some r) c fine = g
     unless_tells None c fine = fine
 
-    push_members_tells : (l' : Leading) → SendingsTold confs (Leader l') → (c : Conf) → TellsCall seen confs (push_members s l' c)
+    push_members_tells : (l' : Leading) → SendingsTold seen confs (Leader l') → (c : Conf) → TellsCall seen confs (push_members s l' c)
     push_members_tells l' sendings c =
         let e : LogEntry = record { term = s.term; body = Members c.margin c.voters } in
         raise_tells seen confs (record (still (pushed (leads_with s l') (Members c.margin c.voters))) { batch = record empty_batch { members = (length s.path + 1, c.margin, c.voters) ∷ [] } }) l'
@@ -336,7 +350,7 @@ module _ (seen : ℕ) (confs : List Conf) (link : Link) where
 
     pub join_tells : (id : ℕ) (linked : Bool) → TellsCall seen confs (join link s l id linked)
     join_tells id linked =
-        let told = all_take (λ (e : LogEntry). IsTold confs e.body) s.committed s.path g.told in
+        let told = table_from seen confs (take s.committed s.path) (all_take (λ (e : LogEntry). IsTold confs e.body) s.committed s.path g.told) (omega (arith, length-take s.committed s.path, g.below)) in
         unless_tells (join_refusal s l id linked) _ (leading (joined s l id) (put_sending id (record { path = take s.committed s.path; part = 0 }) told) _ (told, tt))
 
     pub admit_tells : (id : ℕ) → TellsCall seen confs (admit s l id)
@@ -354,16 +368,16 @@ module _ (seen : ℕ) (confs : List Conf) (link : Link) where
     accepted_told (Learner taking) is from end promised = g
     accepted_told Follower is from end promised = g
     accepted_told (Candidate votes) is from end promised = g
-    accepted_told (Leader l) is from end promised = accepted_tells s g l (subst (SendingsTold confs) is g.sendings) from end promised
+    accepted_told (Leader l) is from end promised = accepted_tells s g l (subst (SendingsTold seen confs) is g.sendings) from end promised
 
     pub rejected_told : (role : Role) → s.role ≡ role → (from hint : ℕ) → TellsCall seen confs (rejected_heard s role from hint)
     rejected_told (Learner taking) is from hint = g
     rejected_told Follower is from hint = g
     rejected_told (Candidate votes) is from hint = g
-    rejected_told (Leader l) is from hint = rejected_tells s g l (subst (SendingsTold confs) is g.sendings) from hint
+    rejected_told (Leader l) is from hint = rejected_tells s g l (subst (SendingsTold seen confs) is g.sendings) from hint
 
     pub taken_told : (role : Role) → s.role ≡ role → (from : ℕ) (point : Point) (next : ℕ) → TellsCall seen confs (part_taken link s role from point next)
     taken_told (Learner taking) is from point next = g
     taken_told Follower is from point next = g
     taken_told (Candidate votes) is from point next = g
-    taken_told (Leader l) is from point next = taken_tells s g l (subst (SendingsTold confs) is g.sendings) from point next
+    taken_told (Leader l) is from point next = taken_tells s g l (subst (SendingsTold seen confs) is g.sendings) from point next

@@ -1,9 +1,9 @@
 -- One call of a replica tells how far its committed index rose, and each configuration that its path gained.
 use Rattle.std.proofs.Common.{◌≡◌, ℕ, nat_lt, Option, Some, None, List, refl, subst}
 use Rattle.std.proofs.lemmas.Bool.{cond_both}
-use Rattle.svr_base.specs.declared.entry.Hash.{Hash}
-use Rattle.svr_base.specs.declared.peer.PeerMsg.{PeerMsg}
-use Rattle.svr_base.specs.declared.peer.PeerMsg.TheVariants.{AskVote, Vote, Append, Accepted, Rejected, Part, PartTaken}
+use Rattle.values.specs.declared.entry.Hash.{Hash}
+use Rattle.values.specs.declared.peer.PeerMsg.{PeerMsg}
+use Rattle.values.specs.declared.peer.PeerMsg.TheVariants.{AskVote, Vote, Append, Accepted, Rejected, Part, PartTaken}
 use Rattle.group_quorum.specs.Conf.{Conf}
 use Rattle.client_msgs.specs.Reading.{request_of}
 use Rattle.replica_model.specs.Path.{Link}
@@ -11,10 +11,11 @@ use Rattle.replica_model.specs.Message.{Message, plain}
 use Rattle.replica_model.specs.Replica.{Role, Learner, Follower, Candidate, Leader, Leading, Replica}
 use Rattle.replica_model.specs.Call.{Input, Tick, Peer, Client, Join, Admit, Remove, Margin, Call}
 use Rattle.replica_model.specs.Changes.{join, admit, remove, set_margin, at_leader}
-use Rattle.replica_model.specs.Term.{term_of, followed, higher_term}
+use Rattle.values.specs.Terms.{term_of}
+use Rattle.replica_model.specs.Term.{followed, higher_term}
 use Rattle.replica_model.specs.Ticks.{tick}
 use Rattle.replica_model.specs.Step.{hears, hears_older, holder_hears, peer_hears, acts_on, acts_halted, acts, step}
-use Rattle.closing_laws.proofs.Tells.{AllTold, SendingsTold, TellsCall, TellsState}
+use Rattle.closing_laws.proofs.Tells.{IsTable, SendingsTold, TellsCall, TellsState}
 use Rattle.closing_laws.proofs.Raised.{ended_tells}
 use Rattle.closing_laws.proofs.Rules.{saying, turned, stand_tells, vote_asked_tells, vote_heard_tells, append_heard_tells, accepted_told, rejected_told, taken_told, part_heard_tells, leader_tick_tells, join_tells, admit_tells, remove_tells, margin_tells, on_request_tells, learner_tells}
 
@@ -37,7 +38,7 @@ module _ (seen : ℕ) (confs : List Conf) (link : Link) where
   older_tells s g from (Part term part) = saying seen confs link s g (from, plain (Rejected s.term part.point.index s.promised)) (tt, tt)
   older_tells s g from (PartTaken term point next) = taken_told seen confs link s g s.role refl from point next
 
-  followed_told : (role : Role) → SendingsTold confs role → SendingsTold confs (followed role)
+  followed_told : (role : Role) → SendingsTold seen confs role → SendingsTold seen confs (followed role)
   followed_told (Learner taking) h = tt
   followed_told Follower h = tt
   followed_told (Candidate votes) h = tt
@@ -52,7 +53,7 @@ module _ (seen : ℕ) (confs : List Conf) (link : Link) where
         (λ b. hears_tells (record s { term = term_of m; vote = 0; known = 0; role = followed s.role }) (turned seen confs link s (followed s.role) g (followed_told s.role g.sendings)) from m)
         (λ b. hears_tells s g from m))
 
-    peer_tells : (role : Role) → (from : ℕ) (m : Message) → AllTold confs m.names.path → TellsCall seen confs (peer_hears link s role from m)
+    peer_tells : (role : Role) → (from : ℕ) (m : Message) → IsTable seen confs m.names.path → TellsCall seen confs (peer_hears link s role from m)
     peer_tells (Learner taking) from m known = learner_tells seen confs link s g from m.names known taking m.msg
     peer_tells Follower from m known = holder_tells from m.msg
     peer_tells (Candidate votes) from m known = holder_tells from m.msg
@@ -62,18 +63,18 @@ module _ (seen : ℕ) (confs : List Conf) (link : Link) where
     tick_tells (Learner taking) is = g
     tick_tells Follower is = stand_tells seen confs link s g
     tick_tells (Candidate votes) is = stand_tells seen confs link s g
-    tick_tells (Leader l) is = leader_tick_tells seen confs link s g l (subst (SendingsTold confs) is g.sendings)
+    tick_tells (Leader l) is = leader_tick_tells seen confs link s g l (subst (SendingsTold seen confs) is g.sendings)
 
-    at_leader_tells : (role : Role) (change : Leading → Call) → s.role ≡ role → ((l : Leading) → SendingsTold confs (Leader l) → TellsCall seen confs (change l)) → TellsCall seen confs (at_leader s role change)
+    at_leader_tells : (role : Role) (change : Leading → Call) → s.role ≡ role → ((l : Leading) → SendingsTold seen confs (Leader l) → TellsCall seen confs (change l)) → TellsCall seen confs (at_leader s role change)
     at_leader_tells (Learner taking) change is fine = g
     at_leader_tells Follower change is fine = g
     at_leader_tells (Candidate votes) change is fine = g
-    at_leader_tells (Leader l) change is fine = fine l (subst (SendingsTold confs) is g.sendings)
+    at_leader_tells (Leader l) change is fine = fine l (subst (SendingsTold seen confs) is g.sendings)
 
     -- what is handed names a path whose configurations were told
     abbrev pub IsKnownInput : Input → Type 0
     IsKnownInput Tick = Unit {0}
-    IsKnownInput (Peer from m) = AllTold confs m.names.path
+    IsKnownInput (Peer from m) = IsTable seen confs m.names.path
     IsKnownInput (Client client number bytes) = Unit {0}
     IsKnownInput (Join id linked) = Unit {0}
     IsKnownInput (Admit id) = Unit {0}

@@ -1,10 +1,10 @@
 -- A replica beside a node of the generous machine: its state, its messages, and its calls.
 use Rattle.std.proofs.Common.{◌≡◌, ℕ, ◌+◌, ◌<◌, ◌≤◌, Bool, true, false, ◌⊎◌, Option, Some, None, List, [], ◌∷◌, length, take, drop}
 use Rattle.std.specs.List.{AllByRecursion}
-use Rattle.svr_base.specs.declared.entry.Hash.{Hash}
-use Rattle.svr_base.specs.declared.entry.Point.{Point}
-use Rattle.svr_base.specs.declared.peer.PeerMsg.{PeerMsg}
-use Rattle.svr_base.specs.declared.peer.PeerMsg.TheVariants as peer
+use Rattle.values.specs.declared.entry.Hash.{Hash}
+use Rattle.values.specs.declared.entry.Point.{Point}
+use Rattle.values.specs.declared.peer.PeerMsg.{PeerMsg}
+use Rattle.values.specs.declared.peer.PeerMsg.TheVariants as peer
 use Rattle.group_quorum.specs.Conf.{Conf}
 use Rattle.group_quorum.specs.Voters.{is_in}
 use Rattle.replica_model.specs.Path.{Path, Link, chain, last_term}
@@ -15,12 +15,12 @@ use Rattle.replica_model.specs.Peers.{progress_of}
 use Rattle.replica_model.specs.Call.{Call}
 use Rattle.group_model.specs.Log.{AnyByRecursion}
 use Rattle.group_model.specs.Halts.{EnoughAt}
-use Rattle.halt_machine.specs.Node as node
-use Rattle.halt_machine.specs.Node.{Node}
-use Rattle.halt_machine.specs.Machine.{Choice, Machine, In}
-use Rattle.halt_machine.specs.Changes.{is_single_change}
-use Rattle.halt_machine.proofs.Changes.{single_change_overlaps}
-use Rattle.machine_laws.proofs.Goes.{Later, Reached, Goes}
+use Rattle.path_machine.specs.Node as node
+use Rattle.path_machine.specs.Node.{Node}
+use Rattle.path_machine.specs.Machine.{Choice, Machine, In}
+use Rattle.path_machine.specs.Changes.{is_single_change}
+use Rattle.path_machine.proofs.Changes.{single_change_overlaps}
+use Rattle.path_laws.proofs.Goes.{Later, Reached, Goes}
 
 -- the role of a node, of a replica's role
 abbrev pub kind : Role → node.Role

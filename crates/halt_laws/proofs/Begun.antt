@@ -14,11 +14,11 @@ use Rattle.group_model.specs.Enclave.{Begin, started}
 use Rattle.group_model.specs.Happens as happening
 use Rattle.group_model.specs.Run.{Enclaves, no_enclaves, newly, start_enclave, enclaves}
 use Rattle.log_laws.proofs.History.{with_call, HeldIn}
-use Rattle.halt_machine.specs.Node as node
-use Rattle.halt_machine.specs.Machine.{start}
-use Rattle.halt_machine.specs.Changes.{rises_from, is_rising, is_single_change}
-use Rattle.halt_machine.proofs.Changes.{single_change_overlaps}
-use Rattle.machine_laws.proofs.Goes.{start_reached}
+use Rattle.path_machine.specs.Node as node
+use Rattle.path_machine.specs.Machine.{start}
+use Rattle.path_machine.specs.Changes.{rises_from, is_rising, is_single_change}
+use Rattle.path_machine.proofs.Changes.{single_change_overlaps}
+use Rattle.path_laws.proofs.Goes.{start_reached}
 use Rattle.halt_laws.proofs.Alike.{Is}
 use Rattle.halt_laws.proofs.Onward.{still_went}
 use Rattle.halt_laws.proofs.Electing.{in_inserted}

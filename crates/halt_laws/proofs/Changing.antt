@@ -3,10 +3,10 @@ use Rattle.std.proofs.Common.{◌≡◌, ℕ, ◌+◌, ◌≤◌, inl, inr, Bool
 use Rattle.std.proofs.lemmas.Bool.{cond-true, cond-false, cases_Bool, and_parts, and_from, le-leb, ltb-false}
 use Rattle.std.proofs.lemmas.Option.{none-some}
 use Rattle.std.proofs.lemmas.List.{length-take-le}
-use Rattle.svr_base.specs.declared.batch.Refusal.{Refusal}
-use Rattle.svr_base.specs.declared.entry.Body.{Body}
-use Rattle.svr_base.specs.declared.entry.Body.TheVariants.{Members}
-use Rattle.svr_base.specs.declared.entry.LogEntry.{LogEntry}
+use Rattle.values.specs.declared.batch.Refusal.{Refusal}
+use Rattle.values.specs.declared.entry.Body.{Body}
+use Rattle.values.specs.declared.entry.Body.TheVariants.{Members}
+use Rattle.values.specs.declared.entry.LogEntry.{LogEntry}
 use Rattle.group_quorum.specs.Conf.{Conf}
 use Rattle.group_quorum.specs.Voters.{is_in}
 use Rattle.replica_model.specs.Path.{Path, Link}
@@ -19,13 +19,13 @@ use Rattle.replica_model.specs.Tables.{part_message}
 use Rattle.replica_model.specs.Changes.{votes, join_refusal, admit_refusal, remove_refusal, margin_refusal, unless, joined, join, push_members, with_voter, without_voter, admit, remove, set_margin, at_leader}
 use Rattle.group_model.specs.Log.{IsFrontOf}
 use Rattle.log_laws.proofs.Good.{front_refl}
-use Rattle.halt_machine.specs.Node as node
-use Rattle.halt_machine.specs.Node.{Node}
-use Rattle.halt_machine.specs.Machine.{Machine}
-use Rattle.halt_machine.specs.Changes.{is_rising, is_single_change}
-use Rattle.halt_machine.proofs.Changes.{single_change_overlaps}
-use Rattle.halt_machine.proofs.Rising.{admission_is_single, removal_is_single, margin_is_single}
-use Rattle.machine_laws.proofs.Goes.{reached_laws, hands}
+use Rattle.path_machine.specs.Node as node
+use Rattle.path_machine.specs.Node.{Node}
+use Rattle.path_machine.specs.Machine.{Machine}
+use Rattle.path_machine.specs.Changes.{is_rising, is_single_change}
+use Rattle.path_machine.proofs.Changes.{single_change_overlaps}
+use Rattle.path_machine.proofs.Rising.{admission_is_single, removal_is_single, margin_is_single}
+use Rattle.path_laws.proofs.Goes.{reached_laws, hands}
 use Rattle.halt_laws.proofs.Alike.{LeadingFits, On}
 use Rattle.halt_laws.proofs.Onward.{known_of, here_as, Going, onward}
 use Rattle.halt_laws.proofs.Raising.{led_node, lead_at, raise_went}

@@ -1,15 +1,16 @@
 -- Elections and requests are moves of the node.
 use Rattle.std.proofs.Common.{◌≡◌, ℕ, ◌+◌, ◌<◌, ◌≤◌, ◌⊎◌, inl, inr, Bool, true, false, ◌&&◌, ◌||◌, ◌==◌, nat_lt, Option, Some, None, Result, Ok, Err, List, [], ◌∷◌, ◌++◌, length, map, refl, sym, ap, ◌∙◌, subst, arith}
 use Rattle.std.proofs.lemmas.Bool.{cond_both, cond-true, and_parts, and_from, or_cases, or_parts, cases_Bool, cases_eq, eqb-true, eq-eqb, le-ltb}
+use Rattle.std.proofs.lemmas.Map.Views.{any-filter_same}
 use Rattle.std.proofs.lemmas.Option.{same_Some}
-use Rattle.svr_base.specs.declared.entry.Body.{Body}
-use Rattle.svr_base.specs.declared.entry.Body.TheVariants.{Noop, Ask}
-use Rattle.svr_base.specs.declared.entry.Hash.{Hash}
-use Rattle.svr_base.specs.declared.entry.LogEntry.{LogEntry}
-use Rattle.svr_base.specs.declared.ids.ClientId.{ClientId}
-use Rattle.svr_base.specs.declared.message.Request.{Request}
-use Rattle.svr_base.specs.declared.peer.PeerMsg.{PeerMsg}
-use Rattle.svr_base.specs.declared.peer.PeerMsg.TheVariants.{AskVote, Vote}
+use Rattle.values.specs.declared.entry.Body.{Body}
+use Rattle.values.specs.declared.entry.Body.TheVariants.{Noop, Ask}
+use Rattle.values.specs.declared.entry.Hash.{Hash}
+use Rattle.values.specs.declared.entry.LogEntry.{LogEntry}
+use Rattle.values.specs.declared.ids.ClientId.{ClientId}
+use Rattle.values.specs.declared.message.Request.{Request}
+use Rattle.values.specs.declared.peer.PeerMsg.{PeerMsg}
+use Rattle.values.specs.declared.peer.PeerMsg.TheVariants.{AskVote, Vote}
 use Rattle.client_msgs.specs.Canonical.{canonical_request}
 use Rattle.client_msgs.specs.Reading.{request_of}
 use Rattle.client_msgs.specs.declared.fault.RequestFault.{RequestFault}
@@ -20,20 +21,20 @@ use Rattle.replica_model.specs.Path.{Path, Link, last_term}
 use Rattle.replica_model.specs.Enough.{met_by_both}
 use Rattle.replica_model.specs.Message.{plain}
 use Rattle.replica_model.specs.Replica.{Role, Learner, Follower, Candidate, Leader, Leading, Replica, Named, nothing_named}
-use Rattle.replica_model.specs.Peers.{others, with_id, voters_counted}
+use Rattle.replica_model.specs.Peers.{others, voters_counted}
 use Rattle.replica_model.specs.Call.{Call, still, says, empty_batch}
 use Rattle.replica_model.specs.Raise.{pushed, raise_and_send}
-use Rattle.replica_model.specs.Votes.{is_elected, leading_anew, led, win, stood, asks_votes, stands, stand, as_new, vote_asked, counted, vote_heard}
+use Rattle.replica_model.specs.Votes.{is_elected, leading_anew, led, win, stood, asks_votes, stands, stand, as_new, vote_asked, counted, with_vote, vote_heard}
 use Rattle.replica_model.specs.Clients.{asked, is_busy, request_heard, valid_request, on_request, client_request}
 use Rattle.group_model.specs.Log.{IsFrontOf}
-use Rattle.halt_machine.specs.Node as node
-use Rattle.halt_machine.specs.Node.{Node, Outcome, with_value}
-use Rattle.halt_machine.specs.Machine.{Machine, In}
-use Rattle.halt_machine.specs.Changes.{is_single_change}
-use Rattle.halt_machine.proofs.Changes.{single_change_overlaps}
-use Rattle.halt_machine.proofs.Counted.{both_more}
-use Rattle.machine_laws.proofs.Goes.{reached_laws, wins, pushes, takes_message}
-use Rattle.machine_laws.proofs.Goes as goes
+use Rattle.path_machine.specs.Node as node
+use Rattle.path_machine.specs.Node.{Node, Outcome, with_value}
+use Rattle.path_machine.specs.Machine.{Machine, In}
+use Rattle.path_machine.specs.Changes.{is_single_change}
+use Rattle.path_machine.proofs.Changes.{single_change_overlaps}
+use Rattle.path_machine.proofs.Counted.{both_more}
+use Rattle.path_laws.proofs.Goes.{reached_laws, wins, pushes, takes_message}
+use Rattle.path_laws.proofs.Goes as goes
 use Rattle.halt_laws.proofs.Alike.{kind, node_as, VoteFits, LeadingFits, RoleFits, MsgFits, SentFits, On, At, Is}
 use Rattle.halt_laws.proofs.Onward.{own_term, IsHolder, no_learner, holder_first, known_of, here_as, Going, onward, turned, says_went}
 use Rattle.halt_laws.proofs.Raising.{led_node, lead_at, raise_went}
@@ -56,11 +57,16 @@ in_inserted v (x ∷ ids) u h = cond_both (nat_lt v x) (v ∷ x ∷ ids) (x ∷ 
     ])
     h
 
-in_with : (v : ℕ) (ids : List ℕ) (u : ℕ) → is_in (with_id v ids) u ≡ true → (v ≡ u) ⊎ (is_in ids u ≡ true)
-in_with v ids u h = cond_both (is_in ids v) ids (insert_rising v ids) (λ ys. is_in ys u ≡ true → (v ≡ u) ⊎ (is_in ids u ≡ true))
-    (λ b at. inr at)
-    (λ b at. in_inserted v ids u at)
-    h
+-- a vote after one more is that one or was there before
+in_votes : (s : Replica) (votes : List ℕ) (from u : ℕ) → is_in (with_vote s votes from) u ≡ true → (u ≡ from) ⊎ (is_in votes u ≡ true)
+in_votes s votes from u heard =
+    let voted : ℕ → Bool = λ v. v == from || is_in votes v in
+    let both : (voted u && is_in (voters_counted s) u) ≡ true =
+    sym (any-filter_same (λ x. x == u) voted (voted u) (λ v e. ap voted (eqb-true v u e)) (voters_counted s)) ∙ heard in
+    elim (or_cases (u == from) (is_in votes u) (and_parts (voted u) (is_in (voters_counted s) u) both).0) [
+      | inl here ↦ inl (eqb-true u from here)
+      | inr old ↦ inr old
+    ]
 
 -- whom the replica may vote for, the node may
 vote_free : (vote from : ℕ) (voted : Option ℕ) → VoteFits vote voted → (vote == 0 || vote == from) ≡ true → node.is_vote_for voted from ≡ true
@@ -196,7 +202,7 @@ module _ (link : Link) (first : Conf) (holds : ℕ → Bool) (Held : Path → Ty
   vote_heard_went s (Learner taking) is from granted names f k = f
   vote_heard_went s Follower is from granted names f k = f
   vote_heard_went s (Leader l) is from granted names f k = f
-  vote_heard_went s (Candidate votes) is from granted names f k = cond_both granted (counted s (with_id from votes)) (still s) (Going link first holds Held w v)
+  vote_heard_went s (Candidate votes) is from granted names f k = cond_both granted (counted s (with_vote s votes from)) (still s) (Going link first holds Held w v)
       (λ yes.
       let a = f.at in
       let of_first = subst (λ r. RoleFits first s.first s.path s.committed r a.votes a.marks) is a.acts in
@@ -206,8 +212,8 @@ module _ (link : Link) (first : Conf) (holds : ℕ → Bool) (Held : Path → Ty
       let t : Node = record n { votes = with_value a.votes from true } in
       let does : node.takes v n false m ≡ node.quiet t = own_term v n false m refl refl ∙ cond-true (v == v && true) (node.quiet t) (node.quiet n) (and_from (v == v) true (eq-eqb v v refl) refl) in
       let g : On first holds f.now v t [] [] = takes_message first is_single_change single_change_overlaps holds f.now v n a.reached (here_as first holds f.now v s a (Candidate votes) is) false m (node.quiet t) o.1 (not_above s.term) does in
-      let s' : Replica = record s { role = Candidate (with_id from votes) } in
-      counted_went s (with_id from votes)
+      let s' : Replica = record s { role = Candidate (with_vote s votes from) } in
+      counted_went s (with_vote s votes from)
       (turned link first holds Held w v s s' f t [] g
       (record {
         reached = g.reached;
@@ -223,8 +229,8 @@ module _ (link : Link) (first : Conf) (holds : ℕ → Bool) (Held : Path → Ty
           of_first.0,
           λ u heard. elim (cases_eq u from) [
             | inl here ↦ cond-true (u == from) true (a.votes u) (eq-eqb u from here)
-            | inr other ↦ elim (in_with from votes u heard) [
-              | inl same ↦ absurd (other (sym same))
+            | inr other ↦ elim (in_votes s votes from u heard) [
+              | inl same ↦ absurd (other same)
               | inr old ↦ cond_both (u == from) true (a.votes u) (λ b. b ≡ true) (λ b. refl) (λ b. of_first.1 u old)
             ]
           ],

@@ -6,12 +6,12 @@ use Rattle.std.proofs.lemmas.Bool.{or_left, or_parts, eq-eqb}
 use Rattle.std.proofs.lemmas.List.{append-nil}
 use Rattle.group_quorum.specs.Conf.{Conf}
 use Rattle.group_quorum.specs.Voters.{is_in}
-use Rattle.svr_base.specs.declared.event.Event.{Event}
-use Rattle.svr_base.specs.declared.event.Event.TheVariants as event
-use Rattle.svr_base.specs.declared.ids.ClientId.{ClientId}
-use Rattle.svr_base.specs.declared.want.WantFault.{WantFault}
+use Rattle.values.specs.declared.event.Event.{Event}
+use Rattle.values.specs.declared.event.Event.TheVariants as event
+use Rattle.values.specs.declared.ids.ClientId.{ClientId}
+use Rattle.values.specs.declared.want.WantFault.{WantFault}
 use Rattle.schedule_model.specs.Client.{Core, new_core, wanted}
-use Rattle.schedule_model.specs.Lines.{GroupRefusal}
+use Rattle.schedule_model.specs.Refusals.{GroupRefusal}
 use Rattle.replica_model.specs.Path.{Path, Link}
 use Rattle.replica_model.specs.Keyed.{value_at}
 use Rattle.replica_model.specs.Replica.{Replica, learner}
@@ -26,8 +26,8 @@ use Rattle.group_model.specs.Run.{Recorded, Enclaves, World, moves, newly, start
 use Rattle.log_laws.proofs.Chain.{NoCollisionIn}
 use Rattle.log_laws.proofs.History.{with_call, HeldIn, held_shorter, none_larger}
 use Rattle.log_laws.proofs.Moving.{all_get}
-use Rattle.halt_machine.specs.Changes.{is_rising}
-use Rattle.halt_machine.specs.Node as node
+use Rattle.path_machine.specs.Changes.{is_rising}
+use Rattle.path_machine.specs.Node as node
 use Rattle.halt_laws.proofs.Alike.{Is, Went, msg_more}
 use Rattle.halt_laws.proofs.Onward.{still_went}
 use Rattle.halt_laws.proofs.Stepping.{HostInputFits, called_went}
@@ -157,7 +157,7 @@ module _ (link : Link) (first : Conf) (rises : is_rising first.voters ≡ true) 
   abbrev Started : ℕ → Enclaves → Type 0
   Started x f = NoCollisionIn link (HeldIn f.history) → g.rolled ≡ [] → Simulated link first holds (x ∷ g.started) g.messages f
 
-  linked_next : (x r : ℕ) (rs running : List ℕ) (f : Enclaves) → Started x f → ((p : Path) → HeldIn g.field.history p → HeldIn f.history p) → ((f : Enclaves) → Started x f → ((p : Path) → HeldIn g.field.history p → HeldIn f.history p) → Goes link first holds g (linked x rs running f)) → (o : Option Enclave) → value_at f.running r ≡ o → Goes link first holds g (group_after w (elim (call_enclave link f r (Connect x) o) [ Answers batch sent h ↦ happening.connected (enclaves link) x rs h (λ f. Happened happening.Passed (record g { running = running; started = x ∷ g.started; field = f })) | Unreadable ↦ Broken | Nothing ↦ Unanswered ]))
+  linked_next : (x r : ℕ) (rs running : List ℕ) (f : Enclaves) → Started x f → ((p : Path) → HeldIn g.field.history p → HeldIn f.history p) → ((f : Enclaves) → Started x f → ((p : Path) → HeldIn g.field.history p → HeldIn f.history p) → Goes link first holds g (linked x rs running f)) → (o : Option Enclave) → value_at f.running r ≡ o → Goes link first holds g (group_after w (elim (call_enclave link f r (Connect x) o) [ Answers batch sent h ↦ happening.connected (enclaves link) x rs h (λ f. Happened happening.Passed (record g { running = running; started = x ∷ g.started; field = f })) | Unreadable at g ↦ Broken at g | Nothing ↦ Unanswered ]))
   linked_next x r rs running f kept grows rest None is = same
   linked_next x r rs running f kept grows rest (Some e) is =
       rest (moves f r e.replica (Some (Connect x)) (called link e (Connect x)))

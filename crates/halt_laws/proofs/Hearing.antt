@@ -4,10 +4,10 @@ use Rattle.std.specs.Prelude.{filter_map, option_map}
 use Rattle.std.specs.List.{cons_option}
 use Rattle.std.proofs.lemmas.Bool.{cond_both, cond-true, and_parts, and_from, cases_eq, cases_Bool, eq-eqb, le-leb, le-ltb, ltb-false, ltb-true}
 use Rattle.std.proofs.lemmas.List.{length-take-le}
-use Rattle.svr_base.specs.declared.entry.Point.{Point}
-use Rattle.svr_base.specs.declared.peer.TablePart.{TablePart}
-use Rattle.svr_base.specs.declared.peer.PeerMsg.{PeerMsg}
-use Rattle.svr_base.specs.declared.peer.PeerMsg.TheVariants.{AskVote, Vote, Append, Accepted, Rejected, Part, PartTaken}
+use Rattle.values.specs.declared.entry.Point.{Point}
+use Rattle.values.specs.declared.peer.TablePart.{TablePart}
+use Rattle.values.specs.declared.peer.PeerMsg.{PeerMsg}
+use Rattle.values.specs.declared.peer.PeerMsg.TheVariants.{AskVote, Vote, Append, Accepted, Rejected, Part, PartTaken}
 use Rattle.group_quorum.specs.Conf.{Conf}
 use Rattle.group_quorum.specs.Voters.{is_in}
 use Rattle.replica_model.specs.declared.Progress.{Progress}
@@ -26,13 +26,13 @@ use Rattle.group_model.specs.Log.{IsFrontOf}
 use Rattle.log_laws.proofs.Chain.{NoCollisionIn, same_points}
 use Rattle.log_laws.proofs.Leading.{front}
 use Rattle.log_laws.proofs.Offered.{matches_is}
-use Rattle.halt_machine.specs.Node as node
-use Rattle.halt_machine.specs.Node.{Node, with_value, common}
-use Rattle.halt_machine.specs.Machine.{Machine, In}
-use Rattle.halt_machine.specs.Changes.{is_single_change}
-use Rattle.halt_machine.proofs.Changes.{single_change_overlaps}
-use Rattle.halt_machine.proofs.Fronts.{common_ge}
-use Rattle.machine_laws.proofs.Goes.{reached_laws, hands, takes_message, rises}
+use Rattle.path_machine.specs.Node as node
+use Rattle.path_machine.specs.Node.{Node, with_value, common}
+use Rattle.path_machine.specs.Machine.{Machine, In}
+use Rattle.path_machine.specs.Changes.{is_single_change}
+use Rattle.path_machine.proofs.Changes.{single_change_overlaps}
+use Rattle.path_machine.proofs.Fronts.{common_ge}
+use Rattle.path_laws.proofs.Goes.{reached_laws, hands, takes_message, rises}
 use Rattle.halt_laws.proofs.Alike.{kind, node_as, LeadingFits, RoleFits, AcceptedFits, MsgFits, On}
 use Rattle.halt_laws.proofs.Onward.{own_term, known_of, here_as, Going, onward, turned, says_went, restated, leads_on}
 use Rattle.halt_laws.proofs.Raising.{led_node, lead_at, raise_went}

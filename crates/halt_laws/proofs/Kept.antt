@@ -3,8 +3,8 @@ use Rattle.std.proofs.Common.{◌≡◌, ℕ, true, inl, inr, Option, Some, None
 use Rattle.std.specs.Prelude.{fold}
 use Rattle.std.specs.List.{AllByRecursion}
 use Rattle.std.proofs.lemmas.Option.{none-some, same_Some}
-use Rattle.svr_base.specs.declared.event.Event.{Event}
-use Rattle.svr_base.specs.declared.event.Event.TheVariants as event
+use Rattle.values.specs.declared.event.Event.{Event}
+use Rattle.values.specs.declared.event.Event.TheVariants as event
 use Rattle.group_quorum.specs.Conf.{Conf}
 use Rattle.group_quorum.specs.Voters.{conf_of, is_in}
 use Rattle.group_quorum.specs.declared.ConfigFault.{ConfigFault}
@@ -17,10 +17,10 @@ use Rattle.group_model.specs.Log.{AnyByRecursion, IsFrontOf, NoCollision, state_
 use Rattle.group_model.specs.Halts.{LedIn, HoldsEnough, PromiseLies, HaltLaws, NoHalt}
 use Rattle.log_laws.proofs.Chain.{NoCollisionIn}
 use Rattle.log_laws.proofs.History.{HeldIn, all_more}
-use Rattle.halt_machine.specs.Machine.{Machine, In}
-use Rattle.halt_machine.specs.Laws as machine
-use Rattle.halt_machine.specs.Changes.{is_rising, is_single_change}
-use Rattle.halt_machine.proofs.Rising.{made_rises}
+use Rattle.path_machine.specs.Machine.{Machine, In}
+use Rattle.path_machine.specs.Laws as machine
+use Rattle.path_machine.specs.Changes.{is_rising, is_single_change}
+use Rattle.path_machine.proofs.Rising.{made_rises}
 use Rattle.halt_laws.proofs.Moving.{EnoughIn, Recounted, Simulated}
 use Rattle.halt_laws.proofs.Events.{Goes, acts_goes}
 use Rattle.halt_laws.proofs.Begun.{begun, made_ids}

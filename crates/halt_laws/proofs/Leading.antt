@@ -3,7 +3,7 @@ use Rattle.std.proofs.Common.{◌≡◌, ℕ, ◌+◌, ◌≤◌, inl, inr, Some
 use Rattle.std.specs.Prelude.{unwrap_or, map}
 use Rattle.std.proofs.lemmas.Option.{same_Some}
 use Rattle.std.proofs.lemmas.List.{take-append-le, length_push}
-use Rattle.svr_base.specs.declared.entry.LogEntry.{LogEntry}
+use Rattle.values.specs.declared.entry.LogEntry.{LogEntry}
 use Rattle.replica_model.specs.declared.Progress.{Progress}
 use Rattle.replica_model.specs.Path.{Path}
 use Rattle.replica_model.specs.Keyed.{value_at, put, without}

@@ -19,12 +19,12 @@ use Rattle.log_laws.proofs.Good.{front_refl}
 use Rattle.log_laws.proofs.Ending.{all-append}
 use Rattle.log_laws.proofs.History.{with_call, HeldIn, all_more}
 use Rattle.log_laws.proofs.Lookups.{put_cases, without_stood}
-use Rattle.halt_machine.specs.Node as node
-use Rattle.halt_machine.specs.Node.{Node}
-use Rattle.halt_machine.specs.Machine.{Choice, Machine, In}
-use Rattle.halt_machine.specs.Changes.{is_single_change}
-use Rattle.halt_machine.proofs.Changes.{single_change_overlaps}
-use Rattle.machine_laws.proofs.Goes.{Later, reached_laws}
+use Rattle.path_machine.specs.Node as node
+use Rattle.path_machine.specs.Node.{Node}
+use Rattle.path_machine.specs.Machine.{Choice, Machine, In}
+use Rattle.path_machine.specs.Changes.{is_single_change}
+use Rattle.path_machine.proofs.Changes.{single_change_overlaps}
+use Rattle.path_laws.proofs.Goes.{Later, reached_laws}
 use Rattle.halt_laws.proofs.Alike.{kind, node_as, MsgFits, msg_more, SentFits, Reach, Is, Went}
 
 -- in some call of a history there was a moment with enough marks

@@ -4,9 +4,9 @@ use Rattle.std.proofs.lemmas.Bool.{cond_both, cond-true, cond-false, and_from, c
 use Rattle.std.proofs.lemmas.List.{take-take, take_all, take-append-drop, length-drop, length-take-le}
 use Rattle.std.proofs.lemmas.Option.{same_Some, none-some}
 use Rattle.std.proofs.lemmas.Slice.Eq.{bytes_eq-Decides}
-use Rattle.svr_base.specs.declared.entry.Hash.{Hash}
-use Rattle.svr_base.specs.declared.entry.Point.{Point}
-use Rattle.svr_base.specs.declared.peer.PeerMsg.TheVariants.{Rejected}
+use Rattle.values.specs.declared.entry.Hash.{Hash}
+use Rattle.values.specs.declared.entry.Point.{Point}
+use Rattle.values.specs.declared.peer.PeerMsg.TheVariants.{Rejected}
 use Rattle.group_quorum.specs.Conf.{Conf}
 use Rattle.replica_model.specs.Path.{Path, Link, chain, same_hash}
 use Rattle.replica_model.proofs.Paths.{chain-push}
@@ -16,14 +16,14 @@ use Rattle.replica_model.specs.Graft.{hash_at, Offer, points_of, points_from, en
 use Rattle.group_model.specs.Log.{IsFrontOf}
 use Rattle.log_laws.proofs.Chain.{NoCollisionIn}
 use Rattle.log_laws.proofs.Offered.{Grafts, IsCalm, grafts, take_step, hash_cases}
-use Rattle.halt_machine.specs.Node as node
-use Rattle.halt_machine.specs.Node.{Node, Outcome, common}
-use Rattle.halt_machine.specs.Machine.{Machine, In}
-use Rattle.halt_machine.specs.Changes.{is_single_change}
-use Rattle.halt_machine.proofs.Changes.{single_change_overlaps}
-use Rattle.halt_machine.proofs.Fronts.{common_ge}
-use Rattle.halt_machine.proofs.Same.{common_same}
-use Rattle.machine_laws.proofs.Goes.{reached_laws, takes_message}
+use Rattle.path_machine.specs.Node as node
+use Rattle.path_machine.specs.Node.{Node, Outcome, common}
+use Rattle.path_machine.specs.Machine.{Machine, In}
+use Rattle.path_machine.specs.Changes.{is_single_change}
+use Rattle.path_machine.proofs.Changes.{single_change_overlaps}
+use Rattle.path_machine.proofs.Fronts.{common_ge}
+use Rattle.path_machine.proofs.Same.{common_same}
+use Rattle.path_laws.proofs.Goes.{reached_laws, takes_message}
 use Rattle.halt_laws.proofs.Alike.{kind, node_as, AppendFits, On, Is}
 use Rattle.halt_laws.proofs.Onward.{own_term, IsHolder, no_learner, holder_first, Going, onward}
 use Rattle.halt_laws.proofs.Electing.{not_above}

@@ -12,12 +12,12 @@ use Rattle.replica_model.specs.Term.{followed}
 use Rattle.group_model.specs.Log.{AnyByRecursion}
 use Rattle.group_model.specs.Halts.{EnoughAt}
 use Rattle.log_laws.proofs.Ending.{all-append}
-use Rattle.halt_machine.specs.Node as node
-use Rattle.halt_machine.specs.Node.{Node, risen}
-use Rattle.halt_machine.specs.Machine.{Machine, In}
-use Rattle.machine_laws.proofs.Goes.{later_refl, later_on, goes_chosen, rises}
-use Rattle.halt_machine.specs.Changes.{is_single_change}
-use Rattle.halt_machine.proofs.Changes.{single_change_overlaps}
+use Rattle.path_machine.specs.Node as node
+use Rattle.path_machine.specs.Node.{Node, risen}
+use Rattle.path_machine.specs.Machine.{Machine, In}
+use Rattle.path_laws.proofs.Goes.{later_refl, later_on, goes_chosen, rises}
+use Rattle.path_machine.specs.Changes.{is_single_change}
+use Rattle.path_machine.proofs.Changes.{single_change_overlaps}
 use Rattle.halt_laws.proofs.Alike.{kind, node_as, LeadingFits, RoleFits, MsgFits, SentFits, sent_more, On, Is, Went}
 
 -- a node that holds a log takes a message of its own term as it hears it

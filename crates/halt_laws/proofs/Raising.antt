@@ -2,7 +2,7 @@
 use Rattle.std.proofs.Common.{◌≡◌, ℕ, ◌+◌, ◌-◌, ◌<◌, ◌≤◌, ◌==◌, Bool, true, false, cond, ◌&&◌, nat_lt, nat_le, max, ◌⊎◌, inl, inr, Option, Some, None, List, [], ◌∷◌, ◌++◌, length, take, refl, sym, ap, ◌∙◌, subst, arith}
 use Rattle.std.proofs.lemmas.Bool.{and_parts, and_from, eqb-true, le-leb, lt-ltb}
 use Rattle.std.proofs.lemmas.List.{length-take-le, take-append-le, take_all}
-use Rattle.svr_base.specs.declared.entry.Hash.{Hash}
+use Rattle.values.specs.declared.entry.Hash.{Hash}
 use Rattle.group_quorum.specs.Conf.{Conf}
 use Rattle.replica_model.specs.Path.{Path, Link, term_at}
 use Rattle.replica_model.specs.Enough.{is_enough}
@@ -14,14 +14,14 @@ use Rattle.group_model.specs.Log.{AnyByRecursion}
 use Rattle.group_model.specs.Halts.{EnoughAt, HasEnough}
 use Rattle.log_laws.proofs.Leading.{front}
 use Rattle.log_laws.proofs.Raising.{greatest_is, greatest_to}
-use Rattle.halt_machine.specs.Node as node
-use Rattle.halt_machine.specs.Node.{Node}
-use Rattle.halt_machine.specs.Machine.{Choice, Machine, In, choices}
-use Rattle.halt_machine.specs.Changes.{is_single_change}
-use Rattle.halt_machine.proofs.Changes.{single_change_overlaps}
-use Rattle.halt_machine.proofs.Counted.{enough_more}
-use Rattle.machine_laws.proofs.Choosing.{choice_in, choice_of, may_parts}
-use Rattle.machine_laws.proofs.Goes.{later_on, goes_chosen, notes, raises, commits, reached_laws}
+use Rattle.path_machine.specs.Node as node
+use Rattle.path_machine.specs.Node.{Node}
+use Rattle.path_machine.specs.Machine.{Choice, Machine, In, choices}
+use Rattle.path_machine.specs.Changes.{is_single_change}
+use Rattle.path_machine.proofs.Changes.{single_change_overlaps}
+use Rattle.path_machine.proofs.Counted.{enough_more}
+use Rattle.path_laws.proofs.Choosing.{choice_in, choice_of, may_parts}
+use Rattle.path_laws.proofs.Goes.{later_on, goes_chosen, notes, raises, commits, reached_laws}
 use Rattle.halt_laws.proofs.Alike.{node_as, VoteFits, LeadingFits, sent_more, Reach, On, At}
 use Rattle.halt_laws.proofs.Onward.{known_of, here_as, Going, onward}
 
@@ -130,7 +130,7 @@ module _ (link : Link) (first : Conf) (holds : ℕ → Bool) (Held : Path → Ty
                 let o = there_enough s l x is e in
                 let some : 0 < length x.path = e.some in
                 let at' = choice_in first v n (may_promise s l) (length s.path) (length x.path) o.0 some o.1 (may_choose_it first v s l a.voted a.votes a.marks a.mine known.0 known.1 (length x.path) o.1 some o.0) in
-                subst (In x) (sym g.chosen) (Rattle.machine_laws.proofs.Steps.in_left x (choices first v n (may_promise s l) (length s.path)) f.now.history.chosen (subst (λ y. In y (choices first v n (may_promise s l) (length s.path))) o.2 at'))
+                subst (In x) (sym g.chosen) (Rattle.path_laws.proofs.Steps.in_left x (choices first v n (may_promise s l) (length s.path)) f.now.history.chosen (subst (λ y. In y (choices first v n (may_promise s l) (length s.path))) o.2 at'))
             | inr none ↦ absurd none
           ]
         ];

@@ -2,10 +2,10 @@
 use Rattle.std.proofs.Common.{◌≡◌, ℕ, ◌+◌, ◌-◌, ◌<◌, ◌≤◌, Bool, false, not, ◌&&◌, nat_lt, nat_le, inl, Option, Some, None, List, [], ◌∷◌, length, take, drop, refl, sym, ap, arith}
 use Rattle.std.proofs.lemmas.Bool.{cond_both, and_parts, ltb-true}
 use Rattle.std.proofs.lemmas.List.{take-take, drop-take, length-take, length-drop}
-use Rattle.svr_base.specs.declared.entry.Hash.{Hash}
+use Rattle.values.specs.declared.entry.Hash.{Hash}
 use Rattle.group_quorum.specs.Conf.{Conf}
 use Rattle.replica_model.specs.declared.Progress.{Progress}
-use Rattle.svr_base.specs.declared.limits.TheConstants.{MAX_ENTRIES}
+use Rattle.values.specs.declared.limits.TheConstants.{MAX_ENTRIES}
 use Rattle.replica_model.specs.Path.{Path, Link, chain, point}
 use Rattle.replica_model.specs.Configs.{conf_index}
 use Rattle.replica_model.specs.Keyed.{has}
@@ -17,12 +17,12 @@ use Rattle.replica_model.specs.Send.{entries_from, append_from, can_append, sent
 use Rattle.group_model.specs.Log.{IsFrontOf}
 use Rattle.log_laws.proofs.Ending.{all-append}
 use Rattle.log_laws.proofs.Leading.{front}
-use Rattle.halt_machine.specs.Node as node
-use Rattle.halt_machine.specs.Node.{Node}
-use Rattle.halt_machine.specs.Machine.{Machine, In}
-use Rattle.halt_machine.specs.Changes.{is_single_change}
-use Rattle.halt_machine.proofs.Changes.{single_change_overlaps}
-use Rattle.machine_laws.proofs.Goes.{appends, follows}
+use Rattle.path_machine.specs.Node as node
+use Rattle.path_machine.specs.Node.{Node}
+use Rattle.path_machine.specs.Machine.{Machine, In}
+use Rattle.path_machine.specs.Changes.{is_single_change}
+use Rattle.path_machine.proofs.Changes.{single_change_overlaps}
+use Rattle.path_laws.proofs.Goes.{appends, follows}
 use Rattle.halt_laws.proofs.Alike.{AppendFits, MsgFits, On}
 use Rattle.halt_laws.proofs.Onward.{known_of, here_as, Going, onward, restated}
 use Rattle.halt_laws.proofs.Raising.{led_node, lead_at}

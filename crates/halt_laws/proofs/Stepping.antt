@@ -2,9 +2,9 @@
 use Rattle.std.proofs.Common.{◌≡◌, ℕ, ◌<◌, ◌-◌, ◌==◌, ◌||◌, not, Bool, true, false, nat_lt, Option, Some, None, List, length, refl, sym, subst, arith}
 use Rattle.std.proofs.lemmas.Bool.{cond_both, ltb-false}
 use Rattle.std.proofs.lemmas.Option.{none-some}
-use Rattle.svr_base.specs.declared.entry.Hash.{Hash}
-use Rattle.svr_base.specs.declared.peer.PeerMsg.{PeerMsg}
-use Rattle.svr_base.specs.declared.peer.PeerMsg.TheVariants.{AskVote, Vote, Append, Accepted, Rejected, Part, PartTaken}
+use Rattle.values.specs.declared.entry.Hash.{Hash}
+use Rattle.values.specs.declared.peer.PeerMsg.{PeerMsg}
+use Rattle.values.specs.declared.peer.PeerMsg.TheVariants.{AskVote, Vote, Append, Accepted, Rejected, Part, PartTaken}
 use Rattle.group_quorum.specs.Conf.{Conf}
 use Rattle.group_quorum.specs.Voters.{is_in}
 use Rattle.schedule_model.specs.Reading.{max_u32}
@@ -13,16 +13,17 @@ use Rattle.replica_model.specs.Message.{Message, plain}
 use Rattle.replica_model.specs.Replica.{Named, Role, Learner, Follower, Candidate, Leader, Replica}
 use Rattle.replica_model.specs.Call as step
 use Rattle.replica_model.specs.Call.{Input, Call, still}
-use Rattle.replica_model.specs.Term.{term_of, followed, higher_term}
+use Rattle.values.specs.Terms.{term_of}
+use Rattle.replica_model.specs.Term.{followed, higher_term}
 use Rattle.replica_model.specs.Ticks.{tick}
 use Rattle.replica_model.specs.Step.{hears, hears_older, holder_hears, peer_hears, acts_on, acts}
 use Rattle.replica_model.specs.Step.{step as step_of}
 use Rattle.group_model.specs.Enclave.{HostInput, Tick, Peer, Client, Join, Admit, Remove, Save, Roll, Connect, Margin, Enclave, Called, called, accepts, saves_if}
 use Rattle.group_model.specs.Log.{IsFrontOf}
 use Rattle.log_laws.proofs.Chain.{NoCollisionIn}
-use Rattle.halt_machine.specs.Node as node
-use Rattle.halt_machine.specs.Machine.{Machine}
-use Rattle.halt_machine.specs.Changes.{is_rising}
+use Rattle.path_machine.specs.Node as node
+use Rattle.path_machine.specs.Machine.{Machine}
+use Rattle.path_machine.specs.Changes.{is_rising}
 use Rattle.halt_laws.proofs.Alike.{kind, MsgFits, msg_more, Is, Went}
 use Rattle.halt_laws.proofs.Onward.{IsHolder, followed_holds, Going, still_went, says_went, rise_went}
 use Rattle.halt_laws.proofs.Sending.{ended_went}

@@ -1,7 +1,7 @@
 -- A run in which a replica is set back behind its vote: two replicas halt.
 use Rattle.std.specs.Prelude.{ℕ, List, [], ◌∷◌, ◌++◌, filter_map, option_map}
-use Rattle.svr_base.specs.declared.event.Event.{Event}
-use Rattle.svr_base.specs.declared.event.Event.TheVariants.{Begin, Tick, Save, Roll, Margin}
+use Rattle.values.specs.declared.event.Event.{Event}
+use Rattle.values.specs.declared.event.Event.TheVariants.{Begin, Tick, Save, Roll, Margin}
 use Rattle.group_model.specs.Run.{Recorded, World, run}
 use Rattle.halt_laws.specs.Whole.{whole_link}
 use Rattle.halt_laws.specs.Succession.{delivered}

@@ -1,9 +1,9 @@
 -- A run in which the leader, the voters and the margin change, and a learner takes a table and becomes a voter.
 use Rattle.std.specs.Prelude.{ℕ, List, [], ◌∷◌, ◌++◌, map, filter_map, option_map}
 use Rattle.std.specs.List.{range_with_len}
-use Rattle.svr_base.specs.declared.entry.Point.{Point}
-use Rattle.svr_base.specs.declared.event.Event.{Event}
-use Rattle.svr_base.specs.declared.event.Event.TheVariants.{Begin, Start, Tick, Deliver, Join, Admit, Remove, Margin}
+use Rattle.values.specs.declared.entry.Point.{Point}
+use Rattle.values.specs.declared.event.Event.{Event}
+use Rattle.values.specs.declared.event.Event.TheVariants.{Begin, Start, Tick, Deliver, Join, Admit, Remove, Margin}
 use Rattle.group_quorum.specs.Conf.{Conf}
 use Rattle.replica_model.specs.Configs.{conf}
 use Rattle.group_model.specs.Run.{Recorded, World, run}

@@ -1,7 +1,7 @@
 -- The halt laws where neither the voters nor the margin ever change.
 use Rattle.std.specs.Prelude.{◌≡◌, List, []}
 use Rattle.std.specs.List.{AllByRecursion}
-use Rattle.svr_base.specs.declared.event.Event.{Event}
+use Rattle.values.specs.declared.event.Event.{Event}
 use Rattle.replica_model.specs.Path.{Link}
 use Rattle.group_model.specs.Run.{Recorded, World, run}
 use Rattle.group_model.specs.Log.{NoCollision}

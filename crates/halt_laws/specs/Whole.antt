@@ -1,7 +1,7 @@
 -- A link that keeps all that it is given, so that nothing collides.
 use Rattle.std.specs.Prelude.{ℕ, List, [], ◌∷◌, ◌++◌, length}
-use Rattle.svr_base.specs.declared.entry.Body.{Body}
-use Rattle.svr_base.specs.declared.entry.Body.TheVariants.{Noop, Ask, Members}
+use Rattle.values.specs.declared.entry.Body.{Body}
+use Rattle.values.specs.declared.entry.Body.TheVariants.{Noop, Ask, Members}
 use Rattle.replica_model.specs.Path.{Link}
 use Rattle.group_model.specs.Run.{World}
 use Rattle.group_model.specs.Log.{NoCollision}

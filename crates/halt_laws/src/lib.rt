@@ -6,7 +6,7 @@
 
 ghost use Rattle.group_model.specs.Halts.{NoHalt};
 
-use machine_laws::laws_by_single_changes;
+use path_laws::laws_by_single_changes;
 
 /// The law that in every run without a rollback and without a collision at most one replica leads in a term, paths
 /// with entries of one term at one index are equal up to there, who leads holds what had enough marks in an earlier

@@ -3,14 +3,14 @@ use Rattle.std.proofs.Common.{◌≡◌, ℕ, ◌+◌, ◌<◌, ◌≤◌, inl, 
 use Rattle.std.proofs.lemmas.Bool.{cond_both, cond-true, cond-false, cases_Bool, ltb-false}
 use Rattle.std.proofs.lemmas.Option.{none-some}
 use Rattle.std.proofs.lemmas.List.{take-append-le, take_all, length-take}
-use Rattle.svr_base.specs.declared.batch.Refusal.{Refusal}
-use Rattle.svr_base.specs.declared.entry.Body.TheVariants.{Noop, Ask, Members}
-use Rattle.svr_base.specs.declared.entry.Hash.{Hash}
-use Rattle.svr_base.specs.declared.entry.LogEntry.{LogEntry}
-use Rattle.svr_base.specs.declared.ids.ClientId.{ClientId}
-use Rattle.svr_base.specs.declared.message.Request.{Request}
-use Rattle.svr_base.specs.declared.peer.PeerMsg.{PeerMsg}
-use Rattle.svr_base.specs.declared.peer.PeerMsg.TheVariants.{AskVote, Vote}
+use Rattle.values.specs.declared.batch.Refusal.{Refusal}
+use Rattle.values.specs.declared.entry.Body.TheVariants.{Noop, Ask, Members}
+use Rattle.values.specs.declared.entry.Hash.{Hash}
+use Rattle.values.specs.declared.entry.LogEntry.{LogEntry}
+use Rattle.values.specs.declared.ids.ClientId.{ClientId}
+use Rattle.values.specs.declared.message.Request.{Request}
+use Rattle.values.specs.declared.peer.PeerMsg.{PeerMsg}
+use Rattle.values.specs.declared.peer.PeerMsg.TheVariants.{AskVote, Vote}
 use Rattle.client_msgs.specs.Canonical.{canonical_request}
 use Rattle.client_msgs.specs.Reading.{request_of}
 use Rattle.client_msgs.specs.declared.fault.RequestFault.{RequestFault}
@@ -20,10 +20,10 @@ use Rattle.replica_model.specs.Path.{Path, Link, last_term}
 use Rattle.replica_model.specs.Configs.{is_members, conf_index}
 use Rattle.replica_model.specs.Message.{plain}
 use Rattle.replica_model.specs.Replica.{Role, Learner, Follower, Candidate, Leader, Leading, Replica}
-use Rattle.replica_model.specs.Peers.{is_pending, newest, others, with_id, voters_counted, leads_with}
+use Rattle.replica_model.specs.Peers.{is_pending, newest, others, voters_counted, leads_with}
 use Rattle.replica_model.specs.Call.{Call, still}
 use Rattle.replica_model.specs.Raise.{pushed, raise_and_send}
-use Rattle.replica_model.specs.Votes.{is_elected, leading_anew, led, win, stood, asks_votes, stands, stand, as_new, vote_asked, counted, vote_heard}
+use Rattle.replica_model.specs.Votes.{is_elected, leading_anew, led, win, stood, asks_votes, stands, stand, as_new, vote_asked, counted, with_vote, vote_heard}
 use Rattle.replica_model.specs.Clients.{asked, is_busy, request_heard, valid_request, on_request, client_request}
 use Rattle.replica_model.specs.Tables.{part_message}
 use Rattle.replica_model.specs.Changes.{log_full, change_pending, join_refusal, admit_refusal, remove_refusal, margin_refusal, unless, joined, join, push_members, with_voter, without_voter, admit, remove, set_margin, at_leader}
@@ -108,8 +108,8 @@ module _ (link : Link) (first : Conf) (Ever : ℕ → Path → Type 0) (Held : P
     pub vote_heard_good : (role : Role) (from : ℕ) (granted : Bool) → GoodCall link first Ever Held v (take s.promised s.path) (vote_heard s role from granted)
     vote_heard_good (Learner taking) from granted = as_was link first Ever Held v s g
     vote_heard_good Follower from granted = as_was link first Ever Held v s g
-    vote_heard_good (Candidate votes) from granted = cond_both granted (counted s (with_id from votes)) (still s) (GoodCall link first Ever Held v (take s.promised s.path))
-        (λ b. counted_good (with_id from votes))
+    vote_heard_good (Candidate votes) from granted = cond_both granted (counted s (with_vote s votes from)) (still s) (GoodCall link first Ever Held v (take s.promised s.path))
+        (λ b. counted_good (with_vote s votes from))
         (λ b. as_was link first Ever Held v s g)
     vote_heard_good (Leader l) from granted = as_was link first Ever Held v s g
 

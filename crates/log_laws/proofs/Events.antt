@@ -5,12 +5,12 @@ use Rattle.std.proofs.lemmas.Bool.{or_left, eq-eqb}
 use Rattle.std.proofs.lemmas.List.{append-nil}
 use Rattle.group_quorum.specs.Conf.{Conf}
 use Rattle.group_quorum.specs.Voters.{is_in}
-use Rattle.svr_base.specs.declared.event.Event.{Event}
-use Rattle.svr_base.specs.declared.event.Event.TheVariants as event
-use Rattle.svr_base.specs.declared.ids.ClientId.{ClientId}
-use Rattle.svr_base.specs.declared.want.WantFault.{WantFault}
+use Rattle.values.specs.declared.event.Event.{Event}
+use Rattle.values.specs.declared.event.Event.TheVariants as event
+use Rattle.values.specs.declared.ids.ClientId.{ClientId}
+use Rattle.values.specs.declared.want.WantFault.{WantFault}
 use Rattle.schedule_model.specs.Client.{Core, new_core, wanted}
-use Rattle.schedule_model.specs.Lines.{GroupRefusal}
+use Rattle.schedule_model.specs.Refusals.{GroupRefusal}
 use Rattle.replica_model.specs.Path.{Path, Link}
 use Rattle.replica_model.specs.Keyed.{value_at}
 use Rattle.replica_model.specs.Replica.{Replica, learner}
@@ -87,7 +87,7 @@ module _ (link : Link) (first : Conf) (w g : World) (k : NoCollisionIn link (Hel
   abbrev linked : ℕ → List ℕ → List ℕ → Enclaves → World
   linked x rs running f = group_after w (happening.connected (enclaves link) x rs f (λ f. Happened happening.Passed (record g { running = running; started = x ∷ g.started; field = f })))
 
-  linked_next : (x r : ℕ) (rs running : List ℕ) (f : Enclaves) → (NoCollisionIn link (HeldIn f.history) → KeptRun link first g.rolled (x ∷ g.started) g.messages f) → ((p : Path) → HeldIn g.field.history p → HeldIn f.history p) → ((f : Enclaves) → (NoCollisionIn link (HeldIn f.history) → KeptRun link first g.rolled (x ∷ g.started) g.messages f) → ((p : Path) → HeldIn g.field.history p → HeldIn f.history p) → Goes link first g (linked x rs running f)) → (o : Option Enclave) → value_at f.running r ≡ o → Goes link first g (group_after w (elim (call_enclave link f r (Connect x) o) [ Answers batch sent h ↦ happening.connected (enclaves link) x rs h (λ f. Happened happening.Passed (record g { running = running; started = x ∷ g.started; field = f })) | Unreadable ↦ Broken | Nothing ↦ Unanswered ]))
+  linked_next : (x r : ℕ) (rs running : List ℕ) (f : Enclaves) → (NoCollisionIn link (HeldIn f.history) → KeptRun link first g.rolled (x ∷ g.started) g.messages f) → ((p : Path) → HeldIn g.field.history p → HeldIn f.history p) → ((f : Enclaves) → (NoCollisionIn link (HeldIn f.history) → KeptRun link first g.rolled (x ∷ g.started) g.messages f) → ((p : Path) → HeldIn g.field.history p → HeldIn f.history p) → Goes link first g (linked x rs running f)) → (o : Option Enclave) → value_at f.running r ≡ o → Goes link first g (group_after w (elim (call_enclave link f r (Connect x) o) [ Answers batch sent h ↦ happening.connected (enclaves link) x rs h (λ f. Happened happening.Passed (record g { running = running; started = x ∷ g.started; field = f })) | Unreadable at g ↦ Broken at g | Nothing ↦ Unanswered ]))
   linked_next x r rs running f kept grows rest None is = same
   linked_next x r rs running f kept grows rest (Some e) is =
       rest (moves f r e.replica (Some (Connect x)) (called link e (Connect x)))

@@ -2,7 +2,7 @@
 use Rattle.std.proofs.Common.{◌≡◌, ℕ, ◌-◌, ◌≤◌, nat_le, min, max, inl, inr, Option, Some, None, [], ◌∷◌, ◌++◌, length, take, drop, refl, sym, ap, ◌∙◌, subst, arith}
 use Rattle.std.proofs.lemmas.Bool.{cond_both}
 use Rattle.std.proofs.lemmas.List.{take-take, take_all, length-drop}
-use Rattle.svr_base.specs.declared.peer.PeerMsg.TheVariants.{Accepted, Rejected}
+use Rattle.values.specs.declared.peer.PeerMsg.TheVariants.{Accepted, Rejected}
 use Rattle.group_quorum.specs.Conf.{Conf}
 use Rattle.replica_model.specs.Path.{Path, Link, chain, point}
 use Rattle.replica_model.specs.Message.{plain}

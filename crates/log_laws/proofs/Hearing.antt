@@ -4,10 +4,10 @@ use Rattle.std.specs.Prelude.{filter_map, option_map}
 use Rattle.std.specs.List.{cons_option}
 use Rattle.std.proofs.lemmas.Bool.{cond_both, and_parts}
 use Rattle.std.proofs.lemmas.List.{take-take, length-take, length-take-le, nil_from_length}
-use Rattle.svr_base.specs.declared.entry.Point.{Point}
-use Rattle.svr_base.specs.declared.peer.TablePart.{TablePart}
-use Rattle.svr_base.specs.declared.peer.PeerMsg.{PeerMsg}
-use Rattle.svr_base.specs.declared.peer.PeerMsg.TheVariants.{AskVote, Vote, Append, Accepted, Rejected, Part, PartTaken}
+use Rattle.values.specs.declared.entry.Point.{Point}
+use Rattle.values.specs.declared.peer.TablePart.{TablePart}
+use Rattle.values.specs.declared.peer.PeerMsg.{PeerMsg}
+use Rattle.values.specs.declared.peer.PeerMsg.TheVariants.{AskVote, Vote, Append, Accepted, Rejected, Part, PartTaken}
 use Rattle.group_quorum.specs.Conf.{Conf}
 use Rattle.group_quorum.specs.Voters.{is_in}
 use Rattle.replica_model.specs.declared.Progress.{Progress}

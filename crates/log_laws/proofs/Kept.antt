@@ -4,9 +4,9 @@ use Rattle.std.specs.Prelude.{map, unwrap_or, fold, IfSome}
 use Rattle.std.specs.List.{AllByRecursion}
 use Rattle.std.proofs.lemmas.Bool.{or_left, or_right, eq-eqb}
 use Rattle.std.proofs.lemmas.Option.{none-some}
-use Rattle.svr_base.specs.declared.entry.Body.TheVariants.{Members}
-use Rattle.svr_base.specs.declared.event.Event.{Event}
-use Rattle.svr_base.specs.declared.event.Event.TheVariants as event
+use Rattle.values.specs.declared.entry.Body.TheVariants.{Members}
+use Rattle.values.specs.declared.event.Event.{Event}
+use Rattle.values.specs.declared.event.Event.TheVariants as event
 use Rattle.group_quorum.specs.Conf.{Conf}
 use Rattle.group_quorum.specs.Sharing.{QuorumsOutlast, CountsOverlap}
 use Rattle.group_quorum.specs.Voters.{conf_of, is_in}

@@ -14,5 +14,5 @@ pub mod History
 mod Enclosed
 pub mod Moving
 mod Events
-mod Kept
+pub mod Kept
 mod Samples

@@ -8,7 +8,7 @@ module _ {A : Type 0} where
   at_head : (x : ℕ × A) (xs : List (ℕ × A)) (k : ℕ) → x.0 ≡ k → value_at (x ∷ xs) k ≡ Some x.1
   at_head x xs k is = ap (option_map (λ (y : ℕ × A). y.1)) (cond-true (x.0 == k) (Some x) (find (λ y. y.0 == k) xs) (eq-eqb x.0 k is))
 
-  past_head : (x : ℕ × A) (xs : List (ℕ × A)) (k : ℕ) → (x.0 ≡ k → ⊥) → value_at (x ∷ xs) k ≡ value_at xs k
+  pub past_head : (x : ℕ × A) (xs : List (ℕ × A)) (k : ℕ) → (x.0 ≡ k → ⊥) → value_at (x ∷ xs) k ≡ value_at xs k
   past_head x xs k other = ap (option_map (λ (y : ℕ × A). y.1)) (cond-false (x.0 == k) (Some x) (find (λ y. y.0 == k) xs) (ne_eqb x.0 k other))
 
   -- the value that was put

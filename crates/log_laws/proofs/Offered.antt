@@ -4,9 +4,9 @@ use Rattle.std.proofs.lemmas.Slice.Eq.{bytes_eq-Decides}
 use Rattle.std.proofs.lemmas.Bool.{and_parts, and_cases, and_from, or_parts, leb-true, leb-false, ltb-false, le-leb, eqb-false, cond-true, cond-false, cases_Bool, cases_lt, cases_eq}
 use Rattle.std.proofs.lemmas.List.{append-nil, take-take, take_all, take-append-drop, drop-drop, drop_all, length-drop, length-take-le}
 use Rattle.std.proofs.lemmas.Option.{same_Some, none-some}
-use Rattle.svr_base.specs.declared.entry.Hash.{Hash}
-use Rattle.svr_base.specs.declared.entry.LogEntry.{LogEntry}
-use Rattle.svr_base.specs.declared.entry.Point.{Point}
+use Rattle.values.specs.declared.entry.Hash.{Hash}
+use Rattle.values.specs.declared.entry.LogEntry.{LogEntry}
+use Rattle.values.specs.declared.entry.Point.{Point}
 use Rattle.replica_model.specs.Path.{Path, Link, chain, same_hash}
 use Rattle.replica_model.specs.Replica.{Replica}
 use Rattle.replica_model.specs.Graft.{hash_at, is_hash, matches, points_from, Difference, differing, first_difference, kept_length, differs_at, refusal_hint}

@@ -1,12 +1,12 @@
 -- Computed runs: one within the rollback bound that commits and answers, and one beyond it with two logs.
 use Rattle.std.proofs.Common.{◌≡◌, ℕ, true, false, Some, Option, List, [], ◌∷◌, ◌++◌, length, refl, replicate}
 use Rattle.std.specs.Prelude.{map, option_map}
-use Rattle.svr_base.specs.declared.event.Event.{Event}
-use Rattle.svr_base.specs.declared.event.Event.TheVariants.{Begin, Tick, Deliver, Save, Roll, Ask}
-use Rattle.svr_base.specs.declared.ids.ClientId.{ClientId}
-use Rattle.svr_base.specs.declared.message.Answer.TheVariants.{Outcome}
-use Rattle.svr_base.specs.declared.message.Reply.TheVariants.{Applied}
-use Rattle.svr_base.specs.declared.message.Response.TheVariants.{Backup}
+use Rattle.values.specs.declared.event.Event.{Event}
+use Rattle.values.specs.declared.event.Event.TheVariants.{Begin, Tick, Deliver, Save, Roll, Ask}
+use Rattle.values.specs.declared.ids.ClientId.{ClientId}
+use Rattle.values.specs.declared.message.Answer.TheVariants.{Outcome}
+use Rattle.values.specs.declared.message.Reply.TheVariants.{Applied}
+use Rattle.values.specs.declared.message.Response.TheVariants.{Backup}
 use Rattle.proto_wire.specs.Fields.{payload_field, field_at, sequence_behind}
 use Rattle.proto_wire.specs.Varint.{groups, number_in}
 use Rattle.record_table.specs.declared.status.TheConstants.{OK}

@@ -1,15 +1,16 @@
 -- One call keeps a replica good, and what it sends is good.
 use Rattle.std.proofs.Common.{◌≡◌, ℕ, false, nat_lt, Option, Some, None, take, refl, subst}
 use Rattle.std.proofs.lemmas.Bool.{cond_both}
-use Rattle.svr_base.specs.declared.entry.Hash.{Hash}
-use Rattle.svr_base.specs.declared.peer.PeerMsg.{PeerMsg}
-use Rattle.svr_base.specs.declared.peer.PeerMsg.TheVariants.{AskVote, Vote, Append, Accepted, Rejected, Part, PartTaken}
+use Rattle.values.specs.declared.entry.Hash.{Hash}
+use Rattle.values.specs.declared.peer.PeerMsg.{PeerMsg}
+use Rattle.values.specs.declared.peer.PeerMsg.TheVariants.{AskVote, Vote, Append, Accepted, Rejected, Part, PartTaken}
 use Rattle.group_quorum.specs.Conf.{Conf}
 use Rattle.replica_model.specs.Path.{Path, Link}
 use Rattle.replica_model.specs.Message.{Message, plain}
 use Rattle.replica_model.specs.Replica.{Role, Learner, Follower, Candidate, Leader, Replica}
 use Rattle.replica_model.specs.Call.{Input, Tick, Peer, Client, Join, Admit, Remove, Margin, Call}
-use Rattle.replica_model.specs.Term.{term_of, followed, higher_term}
+use Rattle.values.specs.Terms.{term_of}
+use Rattle.replica_model.specs.Term.{followed, higher_term}
 use Rattle.replica_model.specs.Ticks.{tick}
 use Rattle.replica_model.specs.Step.{hears, hears_older, holder_hears, peer_hears, acts_on, acts_halted, acts, step}
 use Rattle.group_model.specs.Log.{IsFrontOf}

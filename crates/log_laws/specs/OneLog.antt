@@ -1,6 +1,6 @@
 -- One log over every run.
 use Rattle.std.specs.List.{AllByRecursion}
-use Rattle.svr_base.specs.declared.event.Event.{Event}
+use Rattle.values.specs.declared.event.Event.{Event}
 use Rattle.std.specs.Prelude.{List}
 use Rattle.replica_model.specs.Path.{Link}
 use Rattle.group_model.specs.Run.{World, run}

@@ -1,5 +1,0 @@
-use Rattle.halt_machine.proofs.Changes.{single_change_overlaps}
-use Rattle.halt_machine.proofs.single_changes_overlap.Goals as goal
-
-pub returns : goal.returns
-returns c old new near f g met met' = single_change_overlaps old new near f g met met'
