@@ -1,11 +1,12 @@
 -- Two sessions of the same bytes end alike, whichever enclaves they call.
 use Rattle.std.proofs.Common.{◌≡◌, ℕ, zero, suc, ◌+◌, Bool, true, false, Option, Some, None, Result, Ok, Err, List, [], ◌∷◌, length, take, drop, refl}
 use Rattle.std.specs.Prelude.{nat_lt, ◌||◌, if◌then◌else◌}
-use Rattle.svr_base.specs.declared.entry.Point.{Point}
+use Rattle.values.specs.declared.entry.Point.{Point}
 use Rattle.replica_model.specs.Path.{Link}
 use Rattle.replica_model.specs.Replica.{Named}
 use Rattle.group_model.specs.Enclave.{Enclave}
-use Rattle.trace_model.specs.Session.{Content, Starts, Frames, Hands, Wording, untagged, Length, Cut, Session, max_content, content_called, goes_on, read_content, whole_frame, sized_frame, length_of, frame_size, session_from, ends_at}
+use Rattle.values.specs.declared.limits.TheConstants.{MAX_CONTENT}
+use Rattle.trace_model.specs.Session.{Content, Starts, Frames, Hands, Wording, untagged, Length, Cut, Session, content_called, goes_on, read_content, whole_frame, sized_frame, length_of, frame_size, session_from, ends_at}
 use Rattle.trace_model.specs.Claims.{EndIgnoresTheMap}
 
 -- both have begun, or neither
@@ -43,7 +44,7 @@ module _ {E : Type 0} (wording : Wording E) (link : Link) (names others : Point 
   sized_same : (offset number : ℕ) (before found : Option Enclave) → BothBegun before found → (n : ℕ) (bytes : List ℕ) (next after : Enclave → Session E) → Follow next after
       → SameEnd (sized_frame wording untagged link names offset number before n bytes next) (sized_frame wording untagged link others offset number found n bytes after)
   sized_same offset number before found both n bytes next after follow =
-      by_length (nat_lt n 1 || nat_lt max_content n) _ _ (by_size (nat_lt (length bytes) (n + untagged.size)))
+      by_length (nat_lt n 1 || nat_lt MAX_CONTENT n) _ _ (by_size (nat_lt (length bytes) (n + untagged.size)))
     where
       by_size : (b : Bool) → SameEnd (if b then ends_at wording untagged link names offset Cut else whole_frame wording untagged link names offset number before (take n bytes) (take untagged.size (drop n bytes)) next) (if b then ends_at wording untagged link others offset Cut else whole_frame wording untagged link others offset number found (take n bytes) (take untagged.size (drop n bytes)) after)
       by_size true = refl

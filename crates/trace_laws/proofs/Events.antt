@@ -6,14 +6,14 @@ use Rattle.std.proofs.lemmas.List.{append_assoc}
 use Rattle.group_quorum.specs.Conf.{Conf}
 use Rattle.group_quorum.specs.Voters.{conf_of, insert_rising, is_in}
 use Rattle.group_quorum.specs.declared.ConfigFault.{ConfigFault}
-use Rattle.svr_base.specs.declared.batch.Batch.{Batch}
-use Rattle.svr_base.specs.declared.event.Event.{Event}
-use Rattle.svr_base.specs.declared.event.Event.TheVariants as event
-use Rattle.svr_base.specs.declared.ids.ClientId.{ClientId}
-use Rattle.svr_base.specs.declared.peer.PeerMsg.{PeerMsg}
-use Rattle.svr_base.specs.declared.want.WantFault.{WantFault}
+use Rattle.values.specs.declared.batch.Batch.{Batch}
+use Rattle.values.specs.declared.event.Event.{Event}
+use Rattle.values.specs.declared.event.Event.TheVariants as event
+use Rattle.values.specs.declared.ids.ClientId.{ClientId}
+use Rattle.values.specs.declared.peer.PeerMsg.{PeerMsg}
+use Rattle.values.specs.declared.want.WantFault.{WantFault}
 use Rattle.schedule_model.specs.Client.{Core, new_core, wanted}
-use Rattle.schedule_model.specs.Lines.{GroupRefusal}
+use Rattle.schedule_model.specs.Refusals.{GroupRefusal}
 use Rattle.schedule_model.specs.Reading.{max_u32}
 use Rattle.replica_model.specs.Path.{Link}
 use Rattle.replica_model.specs.Keyed.{value_at}
@@ -26,7 +26,7 @@ use Rattle.group_model.specs.Happens as happening
 use Rattle.group_model.specs.Happens.{Came, Replied, Passed, Happening, Happened, Broken, Unanswered, rolled_back, happens}
 use Rattle.group_model.specs.Run.{Recorded, Enclaves, World, moves, newly, start_enclave, call_enclave, enclaves}
 use Rattle.trace_model.specs.Contents.{ReadsBatch, next_reply, reply_by, contents}
-use Rattle.contents_laws.proofs.Shadow.{Left, plainly, shadow, numbered_shadow, keeps_shadow, rolled_shadow, content_of, ReadBack, contents_then, then_append}
+use Rattle.trace_laws.proofs.Shadow.{Left, plainly, shadow, numbered_shadow, keeps_shadow, rolled_shadow, content_of, ReadBack, contents_then, then_append}
 
 -- ---- the messages of a call stand in its batch
 abbrev SentInBatch : Called → Type 0
@@ -68,7 +68,7 @@ module _ (batch_bytes : ℕ → Batch → List ℕ) (batch_of : ReadsBatch) (lin
   Alike old after (Happened came g) =
       (new : List Recorded) × (g.field.history ≡ new ++ old)
       × (AllRead new → (rest : Left) → after (contents_then batch_bytes batch_of new rest) ≡ Happened came (shadow g rest))
-  Alike old after Broken = ⊥
+  Alike old after (Broken at f) = ⊥
   Alike old after Unanswered = after [] ≡ Unanswered
 
   pub read_left : (new old : List Recorded) → AllRead (new ++ old) → AllRead new × AllRead old
@@ -88,7 +88,7 @@ module _ (batch_bytes : ℕ → Batch → List ℕ) (batch_of : ReadsBatch) (lin
         ∙ answers parts.1.0 (contents_then batch_bytes batch_of new rest)
         ∙ alike parts.0 rest,
   )
-  one_call r old after later given answers none Broken alike = alike
+  one_call r old after later given answers none (Broken at f) alike = alike
   one_call r old after later given answers none Unanswered alike = none
 
   -- a start first
@@ -101,7 +101,7 @@ module _ (batch_bytes : ℕ → Batch → List ℕ) (batch_of : ReadsBatch) (lin
         ∙ ap (λ (b : Bool). if b then content_of batch_bytes batch_of r ∷ contents_then batch_bytes batch_of new rest else contents_then batch_bytes batch_of new rest) given)
         ∙ alike (read_left new (r ∷ []) read).0 rest,
   )
-  one_start r old after given Broken alike = alike
+  one_start r old after given (Broken at f) alike = alike
   one_start r old after given Unanswered alike = alike
 
   -- a batch that a content says
@@ -157,13 +157,13 @@ module _ (batch_bytes : ℕ → Batch → List ℕ) (batch_of : ReadsBatch) (lin
     connected_alike x (r ∷ rs) f next after alike = by_enclave (λ f. connected_alike x rs f next after alike) (value_at f.running r)
       where
         by_enclave : ((f : Enclaves) → Alike f.history (λ left. happening.connected (contents batch_of) x rs left after) (happening.connected (enclaves link) x rs f next)) → (o : Option Enclave)
-            → Alike f.history (λ left. happening.connected (contents batch_of) x (r ∷ rs) left after) (elim (call_enclave link f r (Connect x) o) [ Answers batch sent h ↦ happening.connected (enclaves link) x rs h next | Unreadable ↦ Broken | Nothing ↦ Unanswered ])
+            → Alike f.history (λ left. happening.connected (contents batch_of) x (r ∷ rs) left after) (elim (call_enclave link f r (Connect x) o) [ Answers batch sent h ↦ happening.connected (enclaves link) x rs h next | Unreadable at f ↦ Broken at f | Nothing ↦ Unanswered ])
         by_enclave later None = refl
         by_enclave later (Some e) =
             let c : Called = called link e (Connect x) in
             let now : Recorded = record { replica = r; before = e.replica; input = Some (Connect x); call = c.call } in
             one_call now f.history (λ left. happening.connected (contents batch_of) x (r ∷ rs) left after) (λ left. happening.connected (contents batch_of) x rs left after) refl
-            (λ read rest. ap (λ (o : Reply PeerMsg Left). elim o [ Answers batch sent h ↦ happening.connected (contents batch_of) x rs h after | Unreadable ↦ Broken | Nothing ↦ Unanswered ]) (says_batch now rest read))
+            (λ read rest. ap (λ (o : Reply PeerMsg Left). elim o [ Answers batch sent h ↦ happening.connected (contents batch_of) x rs h after | Unreadable at f ↦ Broken at f | Nothing ↦ Unanswered ]) (says_batch now rest read))
             refl
             (happening.connected (enclaves link) x rs (moves f r e.replica (Some (Connect x)) c) next) (later (moves f r e.replica (Some (Connect x)) c))
 

@@ -1,10 +1,10 @@
 -- A world as it is seen where contents answer its calls.
-use Rattle.std.proofs.Common.{◌≡◌, ℕ, ◌+◌, zero, suc, Bool, true, false, Option, Some, None, List, [], ◌∷◌, ◌++◌, length, map, refl, sym, ap, ◌∙◌}
+use Rattle.std.proofs.Common.{◌≡◌, ℕ, ◌+◌, zero, suc, Bool, true, false, Option, Some, None, Ok, List, [], ◌∷◌, ◌++◌, length, map, refl, sym, ap, ◌∙◌}
 use Rattle.std.specs.Prelude.{cond, if◌then◌else◌, is_some, reverse, filter, find, option_map, unwrap_or}
 use Rattle.std.specs.List.{range_with_len}
 use Rattle.std.proofs.lemmas.List.{reverse-append, map-append, append_assoc, length-map}
-use Rattle.svr_base.specs.declared.batch.Batch.{Batch}
-use Rattle.svr_base.specs.declared.peer.PeerMsg.{PeerMsg}
+use Rattle.values.specs.declared.batch.Batch.{Batch}
+use Rattle.values.specs.declared.peer.PeerMsg.{PeerMsg}
 use Rattle.group_quorum.specs.Voters.{is_in}
 use Rattle.replica_model.specs.Message.{Message}
 use Rattle.group_model.specs.Group.{Group, Sent, sent_by, numbered, is_addressed, next_message, keeps}
@@ -89,7 +89,7 @@ module _ (batch_bytes : ℕ → Batch → List ℕ) (batch_of : ReadsBatch) wher
 
   -- the content of this call is read as its batch
   abbrev pub ReadBack : Recorded → Type 0
-  ReadBack r = batch_of (content_of r) ≡ Some r.call.batch
+  ReadBack r = batch_of (content_of r) ≡ Ok r.call.batch
 
   -- the contents of calls, the newest of which stands first, before those that follow
   abbrev pub contents_then : List Recorded → Left → Left

@@ -1,3 +1,0 @@
-mod Shadow
-mod Events
-mod Played

@@ -1,0 +1,7 @@
+mod True
+mod Rules
+mod Stepped
+mod Walk
+mod Runs
+mod Map
+mod Sessions

@@ -1,5 +1,0 @@
-use Rattle.session_laws.proofs.Ends.{end_ignores_the_map}
-use Rattle.session_laws.proofs.end_ignores_the_map.Goals as goal
-
-pub returns : goal.returns
-returns c s = end_ignores_the_map _

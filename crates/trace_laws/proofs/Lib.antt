@@ -1,0 +1,5 @@
+mod Shadow
+mod Events
+mod Taken
+mod Contents
+mod Ends
