@@ -6,12 +6,12 @@ use Rattle.std.proofs.lemmas.Option.{none-some}
 use Rattle.group_quorum.specs.Conf.{Conf}
 use Rattle.group_quorum.specs.Voters.{conf_of, is_in}
 use Rattle.group_quorum.specs.declared.ConfigFault.{ConfigFault}
-use Rattle.svr_base.specs.declared.event.Event.{Event}
-use Rattle.svr_base.specs.declared.event.Event.TheVariants as event
-use Rattle.svr_base.specs.declared.ids.ClientId.{ClientId}
-use Rattle.svr_base.specs.declared.want.WantFault.{WantFault}
+use Rattle.values.specs.declared.event.Event.{Event}
+use Rattle.values.specs.declared.event.Event.TheVariants as event
+use Rattle.values.specs.declared.ids.ClientId.{ClientId}
+use Rattle.values.specs.declared.want.WantFault.{WantFault}
 use Rattle.schedule_model.specs.Client.{Core, new_core, wanted}
-use Rattle.schedule_model.specs.Lines.{GroupRefusal}
+use Rattle.schedule_model.specs.Refusals.{GroupRefusal}
 use Rattle.replica_model.specs.Path.{Link}
 use Rattle.replica_model.specs.Keyed.{value_at}
 use Rattle.replica_model.specs.Replica.{Replica}
@@ -60,7 +60,7 @@ module _ (link : Link) (limit : ℕ) (w g : World) (k : FairRun limit g.messages
   rolled_goes v j (Some e) is = put_back (slice_get e.saved j) refl
     where
       put_back : (o : Option Replica) → slice_get e.saved j ≡ o → Goes limit g (group_after w (happening.rolled (enclaves link) v g (replies g.field v e.replica (Roll j) (rolls_to e j o))))
-      put_back None none = record { as_set = refl; kept = refused_kept limit g.messages g.field k v e (Roll j) (rolls_to e j None).call is refl }
+      put_back None none = record { as_set = refl; kept = refused_kept limit g.messages g.field k v e (Roll j) (rolls_to e j None).call is refl tt }
       put_back (Some s) some = record { as_set = refl; kept = rolled_kept limit g.messages g.field k v j e s is some }
 
   rolls_goes : (v j : ℕ) → Goes limit g (group_after w (happening.rolls (enclaves link) v j g))
@@ -70,7 +70,7 @@ module _ (link : Link) (limit : ℕ) (w g : World) (k : FairRun limit g.messages
   abbrev linked : ℕ → List ℕ → List ℕ → Enclaves → World
   linked x rs running f = group_after w (happening.connected (enclaves link) x rs f (λ f. Happened happening.Passed (record g { running = running; started = x ∷ g.started; field = f })))
 
-  linked_next : (x r : ℕ) (rs running : List ℕ) (f : Enclaves) → FairRun limit g.messages f → ((f : Enclaves) → FairRun limit g.messages f → Goes limit g (linked x rs running f)) → (o : Option Enclave) → value_at f.running r ≡ o → Goes limit g (group_after w (elim (call_enclave link f r (Connect x) o) [ Answers batch sent h ↦ happening.connected (enclaves link) x rs h (λ f. Happened happening.Passed (record g { running = running; started = x ∷ g.started; field = f })) | Unreadable ↦ Broken | Nothing ↦ Unanswered ]))
+  linked_next : (x r : ℕ) (rs running : List ℕ) (f : Enclaves) → FairRun limit g.messages f → ((f : Enclaves) → FairRun limit g.messages f → Goes limit g (linked x rs running f)) → (o : Option Enclave) → value_at f.running r ≡ o → Goes limit g (group_after w (elim (call_enclave link f r (Connect x) o) [ Answers batch sent h ↦ happening.connected (enclaves link) x rs h (λ f. Happened happening.Passed (record g { running = running; started = x ∷ g.started; field = f })) | Unreadable at g ↦ Broken at g | Nothing ↦ Unanswered ]))
   linked_next x r rs running f kept rest None is = same
   linked_next x r rs running f kept rest (Some e) is =
       rest (moves f r e.replica (Some (Connect x)) (called link e (Connect x)))
@@ -148,7 +148,7 @@ nothing_fair limit messages f history running none =
     subst (λ m. FairRun limit m f) (sym none)
     (subst (λ r. FairRun limit [] (record { running = r; history = f.history })) (sym running)
     (subst (λ h. FairRun limit [] (record { running = []; history = h })) (sym history)
-    (record { states = λ v e is. absurd (none-some e is); mail = tt; outcomes = tt })))
+    (record { states = λ v e is. absurd (none-some e is); mail = tt; outcomes = tt; due = tt })))
 
 -- the voters start with the run's limit
 starts_fair : (link : Link) (c : Conf) (limit : ℕ) (messages : List (Sent Message)) (vs : List ℕ) (f : Enclaves) → FairRun limit messages f → FairRun limit messages (happening.starts_all (enclaves link) f c limit vs)
@@ -187,4 +187,4 @@ events_fair link (e ∷ events) w k = events_fair link events (group_after w (ha
 
 -- in every run, whatever is rolled back
 pub run_fair : (link : Link) (events : List Event) → FairWorld (run link events)
-run_fair link events = events_fair link events empty_world (record { kept = record { states = λ v e is. absurd (none-some e is); mail = tt; outcomes = tt }; early = λ unset. (refl, refl, refl) })
+run_fair link events = events_fair link events empty_world (record { kept = record { states = λ v e is. absurd (none-some e is); mail = tt; outcomes = tt; due = tt }; early = λ unset. (refl, refl, refl) })

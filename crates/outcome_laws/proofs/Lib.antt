@@ -1,9 +1,9 @@
 pub mod Places
-mod Tickets
+pub mod Tickets
 mod Raised
 mod Rules
 mod Stepped
-mod Recorded
-mod Moved
-mod Events
+pub mod Recorded
+pub mod Moved
+pub mod Events
 mod Holding

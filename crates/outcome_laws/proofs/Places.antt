@@ -8,18 +8,22 @@ use Rattle.std.specs.Option.{option_or}
 use Rattle.proto_wire.specs.declared.field.WireFault.{WireFault}
 use Rattle.proto_wire.specs.Fields.{Field, sequence_at}
 use Rattle.proto_wire.specs.Reading.{first_fault, last_member}
-use Rattle.svr_base.specs.declared.entry.Body.{Body}
-use Rattle.svr_base.specs.declared.entry.Body.TheVariants.{Noop, Ask, Members}
-use Rattle.svr_base.specs.declared.entry.LogEntry.{LogEntry}
-use Rattle.svr_base.specs.declared.ids.ClientId.{ClientId}
-use Rattle.svr_base.specs.declared.message.Part.{Part}
-use Rattle.svr_base.specs.declared.message.Part.TheVariants.{Secret, Tries}
-use Rattle.svr_base.specs.declared.message.Request.{Request}
-use Rattle.svr_base.specs.declared.message.Request.TheVariants.{Backup, Restore, Delete, Expose}
+use Rattle.values.specs.declared.entry.Body.{Body}
+use Rattle.values.specs.declared.entry.Body.TheVariants.{Noop, Ask, Members}
+use Rattle.values.specs.declared.entry.Hash.{Hash}
+use Rattle.values.specs.declared.entry.LogEntry.{LogEntry}
+use Rattle.values.specs.declared.ids.ClientId.{ClientId}
+use Rattle.values.specs.declared.message.Part.{Part}
+use Rattle.values.specs.declared.message.Part.TheVariants.{Secret, Pin, Tries}
+use Rattle.values.specs.declared.message.Request.{Request}
+use Rattle.values.specs.declared.message.Request.TheVariants.{Backup, Restore, Delete, Expose}
 use Rattle.client_msgs.specs.Reading.{if_sized, request_from, request_in, request_of}
-use Rattle.client_msgs.specs.Sizes.{outside, secret_fault, pin_fault, tries_fault, size_fault}
+use Rattle.client_msgs.proofs.RoundTrip.{request_of-canonical}
+use Rattle.client_msgs.specs.Canonical.{canonical_request}
+use Rattle.client_msgs.specs.Sizes.{FitsRequest, outside, secret_fault, pin_fault, tries_fault, size_fault}
 use Rattle.client_msgs.specs.declared.fault.RequestFault.{RequestFault}
-use Rattle.svr_base.specs.Sizes.{IsSecret, IsValid}
+use Rattle.values.specs.Sizes.{IsSecret, IsValid}
+use Rattle.values.specs.declared.message.Reply.{Reply}
 use Rattle.record_table.specs.Places.{ClientAsk, Places, fold_places, ask_at, reply_at}
 use Rattle.record_table.specs.Rules.{apply}
 use Rattle.record_table.specs.Laws.{AreValid}
@@ -35,6 +39,9 @@ within_sizes part least most size is = elim (cases_Bool (nat_le least size && na
 
 valid_secret : (secret : List ℕ) → secret_fault secret ≡ None → IsSecret secret
 valid_secret secret is = within_sizes Secret 16 48 (length secret) is
+
+pin_fits : (pin : Hash) → pin_fault pin ≡ None → length pin.0 ≡ 32
+pin_fits pin is = let range = within_sizes Pin 32 32 (length pin.0) is in omega (arith, range.0, range.1)
 
 either_none : (a b : Option (Part × ℕ)) → option_or a b ≡ None → (a ≡ None) × (b ≡ None)
 either_none None b is = (refl, is)
@@ -61,6 +68,28 @@ valid_in None (Some (number, fs)) = valid_sized (request_from number fs) (size_f
 -- what is read of bytes is a valid request
 valid_read : (bytes : List ℕ) → IfOk (request_of bytes) IsValid
 valid_read bytes = valid_in (first_fault 2 5 (sequence_at 0 bytes)) (last_member 2 5 (sequence_at 0 bytes).fields)
+
+-- ---- a request that was read is read again from its canonical bytes
+fits_sizes : (request : Request) → size_fault request ≡ None → FitsRequest request
+fits_sizes (Backup secret pin tries) is =
+    let rest = either_none (pin_fault pin) (tries_fault tries) (either_none (secret_fault secret) (option_or (pin_fault pin) (tries_fault tries)) is).1 in
+    pin_fits pin rest.0
+fits_sizes (Restore pin) is = pin_fits pin is
+fits_sizes Delete is = tt
+fits_sizes (Expose secret) is = tt
+
+again_sized : (read : Request) (o : Option (Part × ℕ)) → size_fault read ≡ o → IfOk (if_sized o read) (λ request. request_of (canonical_request request) ≡ Ok request)
+again_sized read None is = request_of-canonical read (valid_sizes read is) (fits_sizes read is)
+again_sized read (Some fault) is = tt
+
+again_in : (fault : Option WireFault) (member : Option (ℕ × List Field)) → IfOk (request_in fault member) (λ request. request_of (canonical_request request) ≡ Ok request)
+again_in (Some fault) member = tt
+again_in None None = tt
+again_in None (Some (number, fs)) = again_sized (request_from number fs) (size_fault (request_from number fs)) refl
+
+pub read_again : (bytes : List ℕ) (request : Request) → request_of bytes ≡ Ok request → request_of (canonical_request request) ≡ Ok request
+read_again bytes request is =
+    subst (λ r. IfOk r (λ request. request_of (canonical_request request) ≡ Ok request)) is (again_in (first_fault 2 5 (sequence_at 0 bytes)) (last_member 2 5 (sequence_at 0 bytes).fields))
 
 valid_ask : (client : ClientId) (number : ℕ) (r : Result Request RequestFault) → IfOk r IsValid → IfSome (ask_of client number r) (λ ask. IsValid ask.request)
 valid_ask client number (Ok request) valid = valid
@@ -132,3 +161,8 @@ ask_of_entry p zero e is = absurd (none-some e is)
 ask_of_entry [] (suc k) e is = absurd (none-some e is)
 ask_of_entry (x ∷ p) (suc zero) e is = ap (λ (y : LogEntry). place_of y.body) (same_Some x e is)
 ask_of_entry (x ∷ p) (suc (suc k)) e is = ask_of_entry p (suc k) e is
+
+-- a place where an ask stands gives a reply
+pub reply_of_ask : (limit : ℕ) (p : Path) (i : ℕ) (ask : ClientAsk) → ask_at (places_of p) i ≡ Some ask → (reply : Reply) × (reply_of limit p i ≡ Some reply)
+reply_of_ask limit p zero ask is = absurd (none-some ask is)
+reply_of_ask limit p (suc k) ask is = (_, ap (option_map (λ (ask : ClientAsk). (apply (fold_places limit (take k (places_of p))) ask.client ask.number ask.request).1)) is)

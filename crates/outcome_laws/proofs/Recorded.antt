@@ -1,17 +1,17 @@
 -- A recorded call: its outcomes are its path's replies to requests that were handed to this replica.
-use Rattle.std.proofs.Common.{◌≡◌, ℕ, suc, ◌+◌, ◌≤◌, ◌==◌, ◌⊎◌, inl, inr, Option, Some, None, Result, Ok, Err, List, [], ◌∷◌, ◌++◌, length, refl, sym, ap, subst, ◌∙◌, slice_get, arith}
+use Rattle.std.proofs.Common.{◌≡◌, ℕ, suc, ◌+◌, ◌<◌, ◌≤◌, ◌==◌, ◌⊎◌, inl, inr, Option, Some, None, Result, Ok, Err, List, [], ◌∷◌, ◌++◌, length, refl, sym, ap, subst, ◌∙◌, slice_get, arith}
 use Rattle.std.specs.Prelude.{find, option_map}
 use Rattle.std.specs.List.{AllByRecursion}
 use Rattle.std.proofs.lemmas.Bool.{cases_Bool, cond-true, cond-false, eqb-true, eqb-false}
 use Rattle.std.proofs.lemmas.Option.{same_Some}
-use Rattle.svr_base.specs.declared.entry.Body.{Body}
-use Rattle.svr_base.specs.declared.entry.Body.TheVariants.{Noop, Ask, Members}
-use Rattle.svr_base.specs.declared.entry.LogEntry.{LogEntry}
-use Rattle.svr_base.specs.declared.ids.ClientId.{ClientId}
-use Rattle.svr_base.specs.declared.message.Answer.{Answer}
-use Rattle.svr_base.specs.declared.message.Answer.TheVariants.{Outcome}
-use Rattle.svr_base.specs.declared.message.Reply.{Reply}
-use Rattle.svr_base.specs.declared.message.Request.{Request}
+use Rattle.values.specs.declared.entry.Body.{Body}
+use Rattle.values.specs.declared.entry.Body.TheVariants.{Noop, Ask, Members}
+use Rattle.values.specs.declared.entry.LogEntry.{LogEntry}
+use Rattle.values.specs.declared.ids.ClientId.{ClientId}
+use Rattle.values.specs.declared.message.Answer.{Answer}
+use Rattle.values.specs.declared.message.Answer.TheVariants.{Outcome}
+use Rattle.values.specs.declared.message.Reply.{Reply}
+use Rattle.values.specs.declared.message.Request.{Request}
 use Rattle.client_msgs.specs.Canonical.{canonical_request}
 use Rattle.client_msgs.specs.Reading.{request_of}
 use Rattle.client_msgs.specs.declared.fault.RequestFault.{RequestFault}
@@ -19,14 +19,15 @@ use Rattle.replica_model.specs.Path.{Path, entry_at}
 use Rattle.replica_model.specs.Folds.{reply_of}
 use Rattle.replica_model.specs.Message.{Message}
 use Rattle.replica_model.specs.Replica.{Ticket, Replica}
-use Rattle.replica_model.specs.Call.{Call}
+use Rattle.replica_model.specs.Call.{Call, still}
 use Rattle.group_model.specs.Enclave.{HostInput, Tick, Peer, Client, Join, Admit, Remove, Save, Roll, Connect, Margin}
 use Rattle.group_model.specs.Run.{Recorded}
 use Rattle.group_model.specs.Log.{AnyByRecursion, state_of, committed_path, new_ticket, asked_in, ticket_request}
+use Rattle.group_model.specs.Due.{IsAnswered}
 use Rattle.group_model.specs.Laws.{Handed}
 use Rattle.log_laws.proofs.History.{all_more, with_call}
-use Rattle.outcome_laws.proofs.Places.{entry_in_front, entry_fits, reply_taken}
-use Rattle.outcome_laws.proofs.Tickets.{IsAsked, IsAmong, Stands, Reads, Replied, IsFair, FairCall, FairState}
+use Rattle.outcome_laws.proofs.Places.{entry_in_front, entry_fits, reply_taken, read_again}
+use Rattle.outcome_laws.proofs.Tickets.{left_among, right_among, IsAsked, IsAmong, Stands, Waits, Wait, IsOwedOrIdle, Reads, Replied, IsFair, FairCall, FairState, owed_from, or_idle}
 use Rattle.outcome_laws.proofs.Rules.{IsNew}
 
 -- ---- elements of lists
@@ -39,15 +40,6 @@ module _ {A : Type 0} where
   all_at P [] x m h = absurd m
   all_at P (y ∷ ys) x (inl same) h = subst P same h.0
   all_at P (y ∷ ys) x (inr m) h = all_at P ys x m h.1
-
-  left_among : (xs ys : List A) (x : A) → AnyByRecursion (λ u. u ≡ x) xs → AnyByRecursion (λ u. u ≡ x) (xs ++ ys)
-  left_among [] ys x m = absurd m
-  left_among (y ∷ xs) ys x (inl same) = inl same
-  left_among (y ∷ xs) ys x (inr m) = inr (left_among xs ys x m)
-
-  right_among : (xs ys : List A) (x : A) → AnyByRecursion (λ u. u ≡ x) ys → AnyByRecursion (λ u. u ≡ x) (xs ++ ys)
-  right_among [] ys x m = m
-  right_among (y ∷ xs) ys x m = inr (right_among xs ys x m)
 
   among_cases : (xs ys : List A) (x : A) → AnyByRecursion (λ u. u ≡ x) (xs ++ ys) → AnyByRecursion (λ u. u ≡ x) xs ⊎ AnyByRecursion (λ u. u ≡ x) ys
   among_cases [] ys x m = inr m
@@ -120,12 +112,25 @@ module _ (run : ℕ) (history : List Recorded) (v : ℕ) (s : Replica) (g : Fair
   old_fits : (u : Ticket) → IsAmong s.tickets u → u.index ≤ length s.path
   old_fits u m = let kept = (old_kept u m).0 in entry_fits s.path u.index _ kept.1
 
+  -- a request that was handed is read again
+  handed_read : (client : ClientId) (number : ℕ) (request : Request) (calls : List Recorded) → AnyByRecursion (Handed v client number request) calls → request_of (canonical_request request) ≡ Ok request
+  handed_read client number request [] h = absurd h
+  handed_read client number request (r ∷ calls) (inl h) = read_again h.1.0 request h.1.2
+  handed_read client number request (r ∷ calls) (inr h) = handed_read client number request calls h
+
+  old_read : (t : Ticket) → IsAmong s.tickets t → request_of (canonical_request t.request) ≡ Ok t.request
+  old_read t m = handed_read t.client t.number t.request history (old_kept t m).1
+
   -- what a call finds is fair
-  pub found_fair : (input : Option (HostInput Message)) → FairState (found s input) run s
+  pub found_waits : Wait s.tickets s.committed s.committed s.tickets
+  found_waits = all_from (λ t. s.committed < t.index → Waits s.committed s.tickets t) s.tickets (λ t m after. (after, m))
+
+  pub found_fair : (input : Option (HostInput Message)) → FairState (found s input) s.tickets s.committed run s
   found_fair input = record {
     reads = g.reads;
     stand = all_from (Stands (found s input) s.path) s.tickets (λ t m. record {
       among = left_among s.tickets (asked_in s input) t m;
+      readable = old_read t m;
       each = λ u among same. elim (among_cases s.tickets (asked_in s input) u among) [
         | inl here ↦ (old_kept u here).0
         | inr new ↦ absurd (omega (arith, old_fits t m, (asked_new s input u new).0, same))
@@ -133,7 +138,14 @@ module _ (run : ℕ) (history : List Recorded) (v : ℕ) (s : Replica) (g : Fair
     });
     answered = tt;
     told = tt;
+    owed = or_idle s.committed s.limit s.committed s.path s.tickets s.tickets [] (owed_from s.committed s.limit s.committed s.path s.tickets s.tickets [] found_waits);
   }
+
+  -- a call that leaves the state as it is
+  pub still_fair : (input : Option (HostInput Message)) → FairCall (found s input) (found s input) s.committed run (still s)
+  still_fair input =
+      let g = found_fair input in
+      record { reads = g.reads; stand = g.stand; answered = tt; told = tt; owed = all_from (IsOwedOrIdle s.committed s.limit s.committed s.path s.tickets []) (found s input) (λ t m. inr (omega arith)) }
 
   -- the ticket of a request that is handed
   pub new_fair : (client : ClientId) (number : ℕ) (bytes : List ℕ) (request : Request) → request_of bytes ≡ Ok request → IsNew (found s (Some (Client client number bytes))) s client number request
@@ -142,6 +154,7 @@ module _ (run : ℕ) (history : List Recorded) (v : ℕ) (s : Replica) (g : Fair
       let e : LogEntry = record { term = s.term; body = Ask client number (canonical_request request) } in
       record {
         among = right_among s.tickets (new_ticket s client number (request_of bytes)) t (subst (λ r. IsAmong (new_ticket s client number r) t) (sym is) (inl refl));
+        readable = read_again bytes request is;
         each = λ u among same. elim (among_cases s.tickets (new_ticket s client number (request_of bytes)) u among) [
           | inl here ↦ absurd (omega (arith, old_fits u here, same))
           | inr new ↦ elim (subst (λ r. IsAmong (new_ticket s client number r) u) is new) [
@@ -151,7 +164,7 @@ module _ (run : ℕ) (history : List Recorded) (v : ℕ) (s : Replica) (g : Fair
         ];
       }
 
-  module _ (input : Option (HostInput Message)) (call : Call) (fair : FairCall (found s input) run call) where
+  module _ (input : Option (HostInput Message)) (call : Call) (fair : FairCall (found s input) (found s input) s.committed run call) where
     abbrev now : Recorded
     now = record { replica = v; before = s; input = input; call = call }
 
@@ -219,3 +232,14 @@ module _ (run : ℕ) (history : List Recorded) (v : ℕ) (s : Replica) (g : Fair
     -- each outcome of the call
     pub answers_kept : AllByRecursion (AnswerKept run now (now ∷ history)) call.batch.answers
     answers_kept = all_more (IsFair (found s input) run call.state.committed call.state.path) (AnswerKept run now (now ∷ history)) answer_kept call.batch.answers fair.answered
+
+    -- each ticket that the call passed is answered
+    is_answered : (t : Ticket) → IsOwedOrIdle s.committed call.state.limit call.state.committed call.state.path call.state.tickets call.batch.answers t → IsAnswered now t
+    is_answered t (inr idle) after passed = absurd (omega (arith, idle, after, passed))
+    is_answered t (inl owed) after passed = elim (owed after) [
+      | inl waits ↦ absurd (let w : call.state.committed < t.index = waits.0 in omega (arith, w, passed))
+      | inr told ↦ told
+    ]
+
+    pub tickets_answered : AllByRecursion (IsAnswered now) (found s input)
+    tickets_answered = all_more (IsOwedOrIdle s.committed call.state.limit call.state.committed call.state.path call.state.tickets call.batch.answers) (IsAnswered now) is_answered (found s input) fair.owed

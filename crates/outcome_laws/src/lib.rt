@@ -4,6 +4,7 @@
 //! laws of the record table hold of that log: numbers, guesses, and what a secret cost.
 #![tactic(auto)]
 
+ghost use Rattle.group_model.specs.Due.{TicketsAnswered};
 ghost use Rattle.group_model.specs.Laws.{OneLog};
 
 use log_laws::one_log;
@@ -20,3 +21,10 @@ pub fn one_log_laws()
     guesses_end();
     data_is_earned();
 }
+
+/// The law that in every run, whatever is rolled back, a call that moves a replica's committed index past the index of a
+/// ticket that it holds answers that ticket: by its outcome, with the reply of its place, or, where the call first replaced
+/// its entry, by saying so. A roll is no such call.
+pub fn tickets_are_answered()
+    ensures { TicketsAnswered }
+{}

@@ -8,13 +8,13 @@ use Rattle.std.proofs.lemmas.Slice.Eq.{bytes_eq-Decides}
 use Rattle.group_quorum.specs.Conf.{Conf}
 use Rattle.group_quorum.specs.Voters.{conf_of, is_in}
 use Rattle.group_quorum.specs.declared.ConfigFault.{ConfigFault}
-use Rattle.svr_base.specs.declared.event.Event.{Event}
-use Rattle.svr_base.specs.declared.event.Event.TheVariants as event
-use Rattle.svr_base.specs.declared.ids.ClientId.{ClientId}
-use Rattle.svr_base.specs.declared.want.Want.{Want}
-use Rattle.svr_base.specs.declared.want.WantFault.{WantFault}
+use Rattle.values.specs.declared.event.Event.{Event}
+use Rattle.values.specs.declared.event.Event.TheVariants as event
+use Rattle.values.specs.declared.ids.ClientId.{ClientId}
+use Rattle.values.specs.declared.want.Want.{Want}
+use Rattle.values.specs.declared.want.WantFault.{WantFault}
 use Rattle.schedule_model.specs.Client.{Core, new_core, wanted, heard, said}
-use Rattle.schedule_model.specs.Lines.{GroupRefusal}
+use Rattle.schedule_model.specs.Refusals.{GroupRefusal}
 use Rattle.replica_model.specs.Path.{Link}
 use Rattle.replica_model.specs.Keyed.{value_at}
 use Rattle.replica_model.specs.Replica.{Replica}
@@ -106,7 +106,7 @@ module _ (c : ClientId) (link : Link) (w g : World) (k : WorldFollows c g) (same
   abbrev linked : ℕ → List ℕ → List ℕ → Enclaves → World
   linked x rs running f = group_after w (happening.connected (enclaves link) x rs f (λ f. Happened happening.Passed (record g { running = running; started = x ∷ g.started; field = f })))
 
-  linked_next : (x r : ℕ) (rs running : List ℕ) (f : Enclaves) → FieldFollows c g f → ((f : Enclaves) → FieldFollows c g f → WorldFollows c (linked x rs running f)) → (o : Option Enclave) → WorldFollows c (group_after w (elim (call_enclave link f r (Connect x) o) [ Answers batch sent h ↦ happening.connected (enclaves link) x rs h (λ f. Happened happening.Passed (record g { running = running; started = x ∷ g.started; field = f })) | Unreadable ↦ Broken | Nothing ↦ Unanswered ]))
+  linked_next : (x r : ℕ) (rs running : List ℕ) (f : Enclaves) → FieldFollows c g f → ((f : Enclaves) → FieldFollows c g f → WorldFollows c (linked x rs running f)) → (o : Option Enclave) → WorldFollows c (group_after w (elim (call_enclave link f r (Connect x) o) [ Answers batch sent h ↦ happening.connected (enclaves link) x rs h (λ f. Happened happening.Passed (record g { running = running; started = x ∷ g.started; field = f })) | Unreadable at g ↦ Broken at g | Nothing ↦ Unanswered ]))
   linked_next x r rs running f kept rest None = same
   linked_next x r rs running f kept rest (Some e) =
       rest (moves f r e.replica (Some (Connect x)) (called link e (Connect x)))

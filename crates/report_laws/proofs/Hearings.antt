@@ -3,20 +3,20 @@ use Rattle.std.proofs.Common.{◌≡◌, ℕ, ◌+◌, ◌==◌, inl, inr, Bool,
 use Rattle.std.specs.Prelude.{IsSomeAnd, if◌then◌else◌}
 use Rattle.std.proofs.lemmas.Bool.{eqb-true}
 use Rattle.std.proofs.lemmas.Option.{same_Some}
-use Rattle.svr_base.specs.declared.entry.Hash.{Hash}
-use Rattle.svr_base.specs.declared.event.Event.{Event}
-use Rattle.svr_base.specs.declared.ids.ClientId.{ClientId}
-use Rattle.svr_base.specs.declared.message.Answer.{Answer}
-use Rattle.svr_base.specs.declared.message.Answer.TheVariants as answer
-use Rattle.svr_base.specs.declared.message.Reply.{Reply}
-use Rattle.svr_base.specs.declared.message.Reply.TheVariants.{Applied}
-use Rattle.svr_base.specs.declared.message.Request.{Request}
-use Rattle.svr_base.specs.declared.message.Request.TheVariants.{Backup, Restore, Delete, Expose}
-use Rattle.svr_base.specs.declared.message.Response.TheVariants.{Backup as BackedUp, Expose as Exposed, Restore as Restored}
-use Rattle.svr_base.specs.declared.want.Report.{Report}
-use Rattle.svr_base.specs.declared.want.Report.TheVariants as report
-use Rattle.svr_base.specs.declared.want.Want.{Want}
-use Rattle.svr_base.specs.declared.want.Want.TheVariants as want
+use Rattle.values.specs.declared.entry.Hash.{Hash}
+use Rattle.values.specs.declared.event.Event.{Event}
+use Rattle.values.specs.declared.ids.ClientId.{ClientId}
+use Rattle.values.specs.declared.message.Answer.{Answer}
+use Rattle.values.specs.declared.message.Answer.TheVariants as answer
+use Rattle.values.specs.declared.message.Reply.{Reply}
+use Rattle.values.specs.declared.message.Reply.TheVariants.{Applied}
+use Rattle.values.specs.declared.message.Request.{Request}
+use Rattle.values.specs.declared.message.Request.TheVariants.{Backup, Restore, Delete, Expose}
+use Rattle.values.specs.declared.message.Response.TheVariants.{Backup as BackedUp, Expose as Exposed, Restore as Restored}
+use Rattle.values.specs.declared.want.Report.{Report}
+use Rattle.values.specs.declared.want.Report.TheVariants as report
+use Rattle.values.specs.declared.want.Want.{Want}
+use Rattle.values.specs.declared.want.Want.TheVariants as want
 use Rattle.record_table.specs.declared.status.TheConstants.{OK}
 use Rattle.record_table.specs.Places.{ClientAsk, ask_at, reply_at, IsApplied, Acts}
 use Rattle.record_table.specs.Laws.{Earned}
@@ -48,7 +48,7 @@ pin_in (Expose secret) other = other
 
 module _ (again : ReadAgain) (rows : RowLaws) (w : World) (laws : OneLogLaws w) (c : ClientId) where
   -- a hearing of the client, of an answer to what it had in flight
-  module _ (hs : List Hearing) (h : Hearing) (last : ℕ) (f : Flight) (flight_is : h.flight ≡ Some f) (mine : h.client ≡ c) (fits : FlightFits last (Some f)) (began : FlightBegan c (outcomes_of w) hs (Some f)) where
+  module _ (hs : List Hearing) (h : Hearing) (last : ℕ) (f : Flight) (flight_is : h.flight ≡ Some f) (mine : h.client ≡ c) (number_is : h.answered.number ≡ f.number) (fits : FlightFits last (Some f)) (began : FlightBegan c (outcomes_of w) hs (Some f)) where
     place_of : (index : ℕ) (reply : Reply) → ListedAs (CallsSaid c last (Some f)) (outcomes_of w) c f.number (answer.Outcome index reply) → Placed again c last f fits.1 w c f.number index reply
     place_of index reply given = placed again c last f fits.1 w index reply (outcomes_of w) laws.outcomes laws.data_earned given
 
@@ -56,7 +56,7 @@ module _ (again : ReadAgain) (rows : RowLaws) (w : World) (laws : OneLogLaws w) 
     acts_at index reply is applied = subst (λ o. IsSomeAnd o IsApplied) (sym is) applied
 
     module _ (index : ℕ) (reply : Reply) (heard_is : h.answered.answer ≡ answer.Outcome index reply) (place : Placed again c last f fits.1 w c f.number index reply) where
-      stored_for : (wanted : Want) → f.want ≡ wanted → reply ≡ Applied (Exposed OK) → f.exposes ≡ true → IsStore wanted → StoredFor w c (h ∷ hs) wanted
+      stored_for : (wanted : Want) → f.want ≡ wanted → reply ≡ Applied (Exposed OK) → f.exposes ≡ true → IsStore wanted → StoredFor w c hs h f wanted
       stored_for (want.Store secret pin tries) is reply_is exposes store =
           let b : BackupHeard c (outcomes_of w) hs f.want f.number = began exposes in
           let first = placed again c b.number (first_flight f.want b.number) fits.1 w b.index (Applied (BackedUp OK)) (outcomes_of w) laws.outcomes laws.data_earned b.given in
@@ -71,42 +71,51 @@ module _ (again : ReadAgain) (rows : RowLaws) (w : World) (laws : OneLogLaws w) 
           let backup_acts = acts_at b.index (Applied (BackedUp OK)) first.replied tt in
           let at = stored_at rows (limit_of w) (log_places w) laws.numbers c b.number secret pin tries b.index index backup backup_acts expose done in
           record {
+            number = b.number;
+            next = b.next;
             backup = b.index;
             expose = index;
             in_order = at.in_order;
-            heard_backup = inr (subst (λ x. AnyByRecursion (Heard c x b.index (Applied (BackedUp OK))) hs) is b.heard);
-            heard_expose = inl (mine, subst (λ o. IsSomeAnd o (λ flight. flight.want ≡ want.Store secret pin tries)) (sym flight_is) is, heard_is ∙ ap (answer.Outcome index) reply_is);
-            backed_up = (backup_acts, (b.number, backup));
-            exposed = (acts_at index (Applied (Exposed OK)) done tt, (b.number + 1, expose));
+            heard_backup = subst (λ x. AnyByRecursion (Heard c (first_flight x b.number) b.index (Applied (BackedUp OK))) hs) is b.heard;
+            heard_expose = (mine, flight_is, number_is, heard_is ∙ ap (answer.Outcome index) reply_is);
+            asked_backup = backup;
+            asked_expose = subst (λ n. ask_at (log_places w) index ≡ Some (record { client = c; number = n; request = Expose secret })) (sym b.next) expose;
+            acts_backup = backup_acts;
+            acts_expose = acts_at index (Applied (Exposed OK)) done tt;
             done = done;
             kept = at.kept;
           }
       stored_for (want.Recover pin) is reply_is exposes never = absurd never
       stored_for want.Erase is reply_is exposes never = absurd never
 
-      recovered_for : (wanted : Want) → f.want ≡ wanted → (secret : List ℕ) (left : ℕ) → reply ≡ Applied (Restored OK secret left) → IsRecover wanted → RecoveredFor w c wanted secret left h
+      recovered_for : (wanted : Want) → f.want ≡ wanted → (secret : List ℕ) (left : ℕ) → reply ≡ Applied (Restored OK secret left) → IsRecover wanted → RecoveredFor w c f wanted secret left h
       recovered_for (want.Store s p tries) is secret left reply_is never = absurd never
       recovered_for (want.Recover pin) is secret left reply_is recover =
           let e = place.earned secret left reply_is in
           let one = same_Some _ _ (sym e.1 ∙ place.asked) in
           let requested : flight_request f ≡ Restore pin = asks_for f.exposes in
           let same : e.0 ≡ pin = ap (λ (a : ClientAsk). pin_in a.request e.0) one ∙ ap (λ (r : Request). pin_in r e.0) requested in
-          record { index = index; heard = heard_is ∙ ap (answer.Outcome index) reply_is; earned = subst (λ p. Earned (limit_of w) (log_places w) c index secret p left) same e.2 }
+          record {
+            index = index;
+            heard = (mine, flight_is, number_is, heard_is ∙ ap (answer.Outcome index) reply_is);
+            asked = place.asked ∙ ap (λ (r : Request). Some (record { client = c; number = f.number; request = r })) requested;
+            earned = subst (λ p. Earned (limit_of w) (log_places w) c index secret p left) same e.2;
+          }
         where
           asks_for : (b : Bool) → (if b then second_request f.want else first_request f.want) ≡ Restore pin
           asks_for true = ap second_request is
           asks_for false = ap first_request is
       recovered_for want.Erase is secret left reply_is never = absurd never
 
-      reported : (r : Report) → reply_meaning f reply ≡ Reports r → MeansSo f.want f.exposes reply (Reports r) → ReportHolds w c (h ∷ hs) h f r
+      reported : (r : Report) → reply_meaning f reply ≡ Reports r → MeansSo f.want f.exposes reply (Reports r) → ReportHolds w c hs h f r
       reported report.Stored means so = stored_for f.want refl so.0 so.1 so.2
       reported (report.Recovered secret left) means so = recovered_for f.want refl secret left so.0 so.1
       reported (report.Undecided last) means so = tt
-      reported r means so = record { index = index; reply = reply; heard = heard_is; replied = place.replied; meant = means }
+      reported r means so = record { index = index; reply = reply; heard = (mine, flight_is, number_is, heard_is); asked = place.asked; replied = place.replied; meant = means }
 
-    meant : (a : Answer) → h.answered.answer ≡ a → ListedAs (CallsSaid c last (Some f)) (outcomes_of w) c f.number a → (r : Report) → answer_meaning f a ≡ Reports r → ReportHolds w c (h ∷ hs) h f r
+    meant : (a : Answer) → h.answered.answer ≡ a → ListedAs (CallsSaid c last (Some f)) (outcomes_of w) c f.number a → (r : Report) → answer_meaning f a ≡ Reports r → ReportHolds w c hs h f r
     meant (answer.Outcome index reply) is given r means = reported index reply is (place_of index reply given) r means (reply_means f reply (Reports r) means)
-    meant (answer.Undecided at kept offered) is given r means = subst (ReportHolds w c (h ∷ hs) h f) (same_report (report.Undecided f.number) r means) tt
+    meant (answer.Undecided at kept offered) is given r means = subst (ReportHolds w c hs h f) (same_report (report.Undecided f.number) r means) tt
     meant (answer.NotLeader id) is given r means = absurd (nothing r means)
     meant (answer.Busy waiting) is given r means = absurd (nothing r means)
     meant (answer.Malformed offset) is given r means = absurd (nothing r means)
@@ -115,25 +124,25 @@ module _ (again : ReadAgain) (rows : RowLaws) (w : World) (laws : OneLogLaws w) 
 
   -- each hearing of the client
   module _ (hs : List Hearing) (h : Hearing) (mine : h.client ≡ c) (k : HeardKept c (outcomes_of w) hs h) where
-    by_meaning : (f : Flight) (m : Meaning) → ((r : Report) → m ≡ Reports r → ReportHolds w c (h ∷ hs) h f r) → HearingHolds w c (h ∷ hs) h (Some f) (heard_as k.before f m).1
+    by_meaning : (f : Flight) (m : Meaning) → ((r : Report) → m ≡ Reports r → ReportHolds w c hs h f r) → HearingHolds w c hs h (Some f) (heard_as k.before f m).1
     by_meaning f Nothing fine = tt
     by_meaning f GoesOn fine = tt
     by_meaning f (Reports r) fine = fine r refl
 
-    by_number : (f : Flight) → k.before.flight ≡ Some f → (b : Bool) → (h.answered.number == f.number) ≡ b → HearingHolds w c (h ∷ hs) h (Some f) (if b then heard_as k.before f (answer_meaning f h.answered.answer) else (k.before, None)).1
+    by_number : (f : Flight) → k.before.flight ≡ Some f → (b : Bool) → (h.answered.number == f.number) ≡ b → HearingHolds w c hs h (Some f) (if b then heard_as k.before f (answer_meaning f h.answered.answer) else (k.before, None)).1
     by_number f is true same = by_meaning f (answer_meaning f h.answered.answer)
-        (meant hs h k.before.last f (sym k.flight_is ∙ is) mine (subst (FlightFits k.before.last) is k.fits) (subst (FlightBegan c (outcomes_of w) hs) is k.began) h.answered.answer refl
+        (meant hs h k.before.last f (sym k.flight_is ∙ is) mine (eqb-true h.answered.number f.number same) (subst (FlightFits k.before.last) is k.fits) (subst (FlightBegan c (outcomes_of w) hs) is k.began) h.answered.answer refl
         (subst (λ n. ListedAs (CallsSaid c k.before.last (Some f)) (outcomes_of w) c n h.answered.answer) (eqb-true h.answered.number f.number same)
         (subst (λ o. ListedAs (CallsSaid c k.before.last o) (outcomes_of w) c h.answered.number h.answered.answer) is k.given)))
     by_number f is false same = tt
 
-    by_flight : (o : Option Flight) → k.before.flight ≡ o → HearingHolds w c (h ∷ hs) h o (hear_in k.before h.answered.number h.answered.answer o).1
+    by_flight : (o : Option Flight) → k.before.flight ≡ o → HearingHolds w c hs h o (hear_in k.before h.answered.number h.answered.answer o).1
     by_flight None is = tt
     by_flight (Some f) is = by_number f is (h.answered.number == f.number) refl
 
-    holds : HearingHolds w c (h ∷ hs) h h.flight h.report
-    holds = subst (HearingHolds w c (h ∷ hs) h h.flight) (sym k.report_is)
-        (subst (λ o. HearingHolds w c (h ∷ hs) h o (heard k.before h.answered.number h.answered.answer).1) k.flight_is (by_flight k.before.flight refl))
+    holds : HearingHolds w c hs h h.flight h.report
+    holds = subst (HearingHolds w c hs h h.flight) (sym k.report_is)
+        (subst (λ o. HearingHolds w c hs h o (heard k.before h.answered.number h.answered.answer).1) k.flight_is (by_flight k.before.flight refl))
 
   each : (hs : List Hearing) → HearingsKept c (outcomes_of w) hs → ReportsHold w c hs
   each [] k = tt

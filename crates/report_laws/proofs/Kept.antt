@@ -4,17 +4,17 @@ use Rattle.std.specs.Prelude.{IsSomeAnd, option_map, filter_map, map, max, nat_l
 use Rattle.std.specs.List.{AllByRecursion, cons_option}
 use Rattle.std.proofs.lemmas.Bool.{eqb-true}
 use Rattle.std.proofs.lemmas.Option.{same_Some, none-some}
-use Rattle.svr_base.specs.declared.ids.ClientId.{ClientId}
-use Rattle.svr_base.specs.declared.message.Answer.{Answer}
-use Rattle.svr_base.specs.declared.message.Answer.TheVariants.{Outcome as Outcomes}
-use Rattle.svr_base.specs.declared.message.Part.{Part}
-use Rattle.svr_base.specs.declared.message.Reply.{Reply}
-use Rattle.svr_base.specs.declared.message.Reply.TheVariants.{Applied}
-use Rattle.svr_base.specs.declared.message.Response.TheVariants.{Backup as BackedUp}
-use Rattle.svr_base.specs.declared.want.Report.{Report}
-use Rattle.svr_base.specs.declared.want.Report.TheVariants as report
-use Rattle.svr_base.specs.declared.want.Want.{Want}
-use Rattle.svr_base.specs.declared.want.WantFault.{WantFault}
+use Rattle.values.specs.declared.ids.ClientId.{ClientId}
+use Rattle.values.specs.declared.message.Answer.{Answer}
+use Rattle.values.specs.declared.message.Answer.TheVariants.{Outcome as Outcomes}
+use Rattle.values.specs.declared.message.Part.{Part}
+use Rattle.values.specs.declared.message.Reply.{Reply}
+use Rattle.values.specs.declared.message.Reply.TheVariants.{Applied}
+use Rattle.values.specs.declared.message.Response.TheVariants.{Backup as BackedUp}
+use Rattle.values.specs.declared.want.Report.{Report}
+use Rattle.values.specs.declared.want.Report.TheVariants as report
+use Rattle.values.specs.declared.want.Want.{Want}
+use Rattle.values.specs.declared.want.WantFault.{WantFault}
 use Rattle.client_msgs.specs.Canonical.{canonical_request}
 use Rattle.client_msgs.specs.Sizes.{size_fault}
 use Rattle.record_table.specs.declared.status.TheConstants.{OK}
@@ -75,7 +75,7 @@ pub record BackupHeard (c : ClientId) (os : List Outcome) (hearings : List Heari
   pub number : ℕ
   pub next : expose ≡ number + 1
   pub index : ℕ
-  pub heard : AnyByRecursion (Heard c w index (Applied (BackedUp OK))) hearings
+  pub heard : AnyByRecursion (Heard c (first_flight w number) index (Applied (BackedUp OK))) hearings
   pub given : ListedAs (CallsSaid c number (Some (first_flight w number))) os c number (Outcomes index (Applied (BackedUp OK)))
 
 -- what exposes in flight was backed up before
@@ -252,6 +252,9 @@ module _ (c : ClientId) (core : Core) (answers : List Answered) (hearings : List
     stays_now : Follows c core answers (heard_now ∷ hearings) history
     stays_now = stays_follows heard_now hearing_kept
 
+    first_is : (f : Flight) (last : ℕ) → f.number ≡ last → f.exposes ≡ false → f ≡ first_flight f.want last
+    first_is f last number_is first = ap (λ n. record { want = f.want; number = n; exposes = f.exposes }) number_is ∙ ap (λ b. record { want = f.want; number = last; exposes = b }) first
+
     -- the backup was done: the expose flies
     goes_on_follows : (f : Flight) → core.flight ≡ Some f → a.number ≡ f.number → answer_meaning f a.answer ≡ GoesOn → Follows c (flies core f.want true) answers (heard_now ∷ hearings) history
     goes_on_follows f is mine means =
@@ -261,7 +264,7 @@ module _ (c : ClientId) (core : Core) (answers : List Answered) (hearings : List
           number = core.last;
           next = refl;
           index = done.index;
-          heard = inl (refl, subst (λ o. IsSomeAnd o (λ flight. flight.want ≡ f.want)) (sym is) refl, done.answer_is);
+          heard = inl (refl, is ∙ ap Some (first_is f core.last fits.0 done.first), mine ∙ fits.0, done.answer_is);
           given = subst (λ answer. ListedAs (CallsSaid c core.last (Some (first_flight f.want core.last))) (outcomes_in history) c core.last answer) done.answer_is
               (subst (λ n. ListedAs (CallsSaid c core.last (Some (first_flight f.want core.last))) (outcomes_in history) c n a.answer) (mine ∙ fits.0)
               (subst (λ n. ListedAs (CallsSaid c core.last (Some (first_flight f.want n))) (outcomes_in history) c a.number a.answer) fits.0

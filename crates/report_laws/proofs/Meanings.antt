@@ -2,16 +2,16 @@
 use Rattle.std.proofs.Common.{◌≡◌, ℕ, ◌==◌, Bool, true, false, refl, ap, subst}
 use Rattle.std.proofs.lemmas.Bool.{cond_both, eqb-true}
 use Rattle.std.specs.Prelude.{if◌then◌else◌}
-use Rattle.svr_base.specs.declared.message.Answer.{Answer}
-use Rattle.svr_base.specs.declared.message.Answer.TheVariants as answer
-use Rattle.svr_base.specs.declared.message.Reply.{Reply}
-use Rattle.svr_base.specs.declared.message.Reply.TheVariants.{Applied, Stale, TableFull}
-use Rattle.svr_base.specs.declared.message.Response.{Response}
-use Rattle.svr_base.specs.declared.message.Response.TheVariants.{Backup as BackedUp, Restore as Restored, Delete as Deleted, Expose as Exposed}
-use Rattle.svr_base.specs.declared.want.Report.{Report}
-use Rattle.svr_base.specs.declared.want.Report.TheVariants as report
-use Rattle.svr_base.specs.declared.want.Want.{Want}
-use Rattle.svr_base.specs.declared.want.Want.TheVariants as want
+use Rattle.values.specs.declared.message.Answer.{Answer}
+use Rattle.values.specs.declared.message.Answer.TheVariants as answer
+use Rattle.values.specs.declared.message.Reply.{Reply}
+use Rattle.values.specs.declared.message.Reply.TheVariants.{Applied, Stale, TableFull}
+use Rattle.values.specs.declared.message.Response.{Response}
+use Rattle.values.specs.declared.message.Response.TheVariants.{Backup as BackedUp, Restore as Restored, Delete as Deleted, Expose as Exposed}
+use Rattle.values.specs.declared.want.Report.{Report}
+use Rattle.values.specs.declared.want.Report.TheVariants as report
+use Rattle.values.specs.declared.want.Want.{Want}
+use Rattle.values.specs.declared.want.Want.TheVariants as want
 use Rattle.record_table.specs.declared.status.TheConstants.{OK}
 use Rattle.schedule_model.specs.Client.{Flight, Meaning, Nothing, GoesOn, Reports, response_meaning, reply_meaning, answer_meaning}
 

@@ -5,18 +5,18 @@ use Rattle.std.specs.List.{AllByRecursion}
 use Rattle.std.specs.Option.{option_or}
 use Rattle.std.proofs.lemmas.Bool.{cases_Bool, cond_both, cond-false, and_parts, leb-true}
 use Rattle.std.proofs.lemmas.Option.{none-some}
-use Rattle.svr_base.specs.Sizes.{IsValid}
-use Rattle.svr_base.specs.declared.entry.Hash.{Hash}
-use Rattle.svr_base.specs.declared.ids.ClientId.{ClientId}
-use Rattle.svr_base.specs.declared.message.Part.{Part}
-use Rattle.svr_base.specs.declared.message.Part.TheVariants.{Secret, Pin, Tries}
-use Rattle.svr_base.specs.declared.message.Reply.{Reply}
-use Rattle.svr_base.specs.declared.message.Reply.TheVariants.{Applied}
-use Rattle.svr_base.specs.declared.message.Request.{Request}
-use Rattle.svr_base.specs.declared.message.Request.TheVariants.{Backup, Restore, Delete, Expose}
-use Rattle.svr_base.specs.declared.message.Response.TheVariants.{Restore as Restored}
-use Rattle.svr_base.specs.declared.want.Want.{Want}
-use Rattle.svr_base.specs.declared.want.Want.TheVariants as want
+use Rattle.values.specs.Sizes.{IsValid}
+use Rattle.values.specs.declared.entry.Hash.{Hash}
+use Rattle.values.specs.declared.ids.ClientId.{ClientId}
+use Rattle.values.specs.declared.message.Part.{Part}
+use Rattle.values.specs.declared.message.Part.TheVariants.{Secret, Pin, Tries}
+use Rattle.values.specs.declared.message.Reply.{Reply}
+use Rattle.values.specs.declared.message.Reply.TheVariants.{Applied}
+use Rattle.values.specs.declared.message.Request.{Request}
+use Rattle.values.specs.declared.message.Request.TheVariants.{Backup, Restore, Delete, Expose}
+use Rattle.values.specs.declared.message.Response.TheVariants.{Restore as Restored}
+use Rattle.values.specs.declared.want.Want.{Want}
+use Rattle.values.specs.declared.want.Want.TheVariants as want
 use Rattle.client_msgs.specs.Canonical.{canonical_request}
 use Rattle.client_msgs.specs.Reading.{request_of}
 use Rattle.client_msgs.specs.Sizes.{outside, secret_fault, pin_fault, tries_fault, size_fault, FitsRequest}
