@@ -1,10 +1,10 @@
 -- What a driven schedule plays keeps what each of its events keeps; so it is a run of the events that were played.
 use Rattle.std.proofs.Common.{ℕ, zero, suc, not, ◌&&◌, Bool, true, false, Option, Some, None, Result, Ok, Err, List, [], length, refl}
 use Rattle.std.specs.Prelude.{is_some}
-use Rattle.svr_base.specs.declared.event.Event.{Event}
-use Rattle.svr_base.specs.declared.event.Event.TheVariants as event
-use Rattle.svr_base.specs.declared.ids.ClientId.{ClientId}
-use Rattle.schedule_model.specs.Cutting.{Fields, records_of}
+use Rattle.values.specs.declared.event.Event.{Event}
+use Rattle.values.specs.declared.event.Event.TheVariants as event
+use Rattle.values.specs.declared.ids.ClientId.{ClientId}
+use Rattle.record_cutting.specs.Lines.{Record, records_of}
 use Rattle.schedule_model.specs.Reading.{RecordFault}
 use Rattle.schedule_model.specs.Records.{event_of}
 use Rattle.schedule_model.specs.Written.{Written, On, Off, follow}
@@ -16,16 +16,10 @@ use Rattle.trace_model.specs.Driver.{Driver, Turn, begin_want, next_turn, max_tu
 use Rattle.trace_model.specs.Trace.{Playing, counted, expanded}
 use Rattle.trace_model.specs.Driven.{Driving, flight_of, driven_by, answer_in, sees_answer, turns_end, driver_made, drives, drives_settled, wakes_target, hears_answer, asks_target, takes_turn, takes_turns, carries_if, drives_want, drives_on, driven_said, driven_record, driven_world}
 use Rattle.trace_model.specs.Claims.{DrivenIsARun}
-use Rattle.headline_laws.proofs.Played.{Ends, follow_ends, all_end, IsRun, expanded_run}
+use Rattle.headline_laws.proofs.Played.{Ends, follow_ends, all_end, ReadsFine, IsRun, any_read, expanded_run}
 
 abbrev Drives : Type 0
 Drives = Driving Message Enclaves
-
--- an event that was read is fine
-abbrev pub ReadsFine : (Event → Type 0) → Result (Option Event) RecordFault → Type 0
-ReadsFine Fine (Ok (Some e)) = Fine e
-ReadsFine Fine (Ok None) = Unit {0}
-ReadsFine Fine (Err fault) = Unit {0}
 
 -- the events that a driver plays, and those that are read, are fine
 pub record DriverIsFine (Fine : Event → Type 0) : Type 0 where
@@ -33,7 +27,7 @@ pub record DriverIsFine (Fine : Event → Type 0) : Type 0 where
   pub say : (c : ClientId) (v : ℕ) → Fine (event.Say c v)
   pub hear : (c : ClientId) (k : ℕ) → Fine (event.Hear c k)
   pub settle : (n : ℕ) → Fine (event.Settle n)
-  pub read : (begun : Bool) (fields : Fields) → ReadsFine Fine (event_of true begun fields)
+  pub read : (begun : Bool) (fields : Record) → ReadsFine Fine (event_of true begun fields)
 
 module _ (link : Link) (P : World → Type 0) (Fine : Event → Type 0) (fine : DriverIsFine Fine) (each : (p : Playing Message Enclaves) (e : Event) → Fine e → P p.group → Ends (λ (q : Playing Message Enclaves). P q.group) (expanded (enclaves link) p e)) where
   abbrev DrivesWell : Drives → Type 0
@@ -95,21 +89,15 @@ module _ (link : Link) (P : World → Type 0) (Fine : Event → Type 0) (fine : 
   said_keeps (Ok (Some e)) ok d good = drives_on_keeps e ok (record d { playing = counted d.playing }) good
   said_keeps (Err fault) ok d good = good
 
-  record_keeps : (d : Drives) (fields : Fields) → DrivesWell d → Ends DrivesWell (driven_record (enclaves link) d fields)
+  record_keeps : (d : Drives) (fields : Record) → DrivesWell d → Ends DrivesWell (driven_record (enclaves link) d fields)
   record_keeps d fields good = said_keeps (event_of true (is_some d.playing.group.setup) fields) (fine.read (is_some d.playing.group.setup) fields) d good
 
   pub driven_keeps : P empty_world → (bytes : List ℕ) → P (driven_world link bytes)
   driven_keeps nothing bytes = all_end DrivesWell (driven_record (enclaves link)) record_keeps _ (records_of bytes) nothing
 
--- any event will do for a run
-any_read : (r : Result (Option Event) RecordFault) → ReadsFine (λ e. Unit {0}) r
-any_read (Ok (Some e)) = tt
-any_read (Ok None) = tt
-any_read (Err fault) = tt
-
 pub driven_are_runs : DrivenIsARun
 driven_are_runs link bytes =
     driven_keeps link (IsRun link) (λ e. Unit {0})
-    (record { tick = λ v. tt; say = λ c v. tt; hear = λ c k. tt; settle = λ n. tt; read = λ begun fields. any_read (event_of true begun fields) })
+    (record { tick = λ v. tt; say = λ c v. tt; hear = λ c k. tt; settle = λ n. tt; read = λ begun fields. any_read (λ e. Unit {0}) (λ e. tt) (event_of true begun fields) })
     (λ p e fine good. expanded_run link p e good)
     refl bytes

@@ -1,6 +1,6 @@
 -- The laws of runs, over the worlds of schedules.
 use Rattle.std.proofs.Common.{◌≡◌, List, sym, subst, arith}
-use Rattle.svr_base.specs.declared.event.Event.{Event}
+use Rattle.values.specs.declared.event.Event.{Event}
 use Rattle.replica_model.specs.Path.{Link}
 use Rattle.group_model.specs.Run.{World, run}
 use Rattle.group_model.specs.Log.{WithinBound, NoCollision}

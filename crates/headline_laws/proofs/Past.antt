@@ -5,12 +5,12 @@ use Rattle.std.proofs.lemmas.Bool.{cond_both}
 use Rattle.group_quorum.specs.Conf.{Conf}
 use Rattle.group_quorum.specs.Voters.{conf_of, is_in}
 use Rattle.group_quorum.specs.declared.ConfigFault.{ConfigFault}
-use Rattle.svr_base.specs.declared.event.Event.{Event}
-use Rattle.svr_base.specs.declared.event.Event.TheVariants as event
-use Rattle.svr_base.specs.declared.ids.ClientId.{ClientId}
-use Rattle.svr_base.specs.declared.want.WantFault.{WantFault}
+use Rattle.values.specs.declared.event.Event.{Event}
+use Rattle.values.specs.declared.event.Event.TheVariants as event
+use Rattle.values.specs.declared.ids.ClientId.{ClientId}
+use Rattle.values.specs.declared.want.WantFault.{WantFault}
 use Rattle.schedule_model.specs.Client.{Core, new_core, wanted}
-use Rattle.schedule_model.specs.Lines.{GroupRefusal}
+use Rattle.schedule_model.specs.Refusals.{GroupRefusal}
 use Rattle.group_model.specs.Enclave.{Learn, HostInput, Tick, Join, Admit, Remove, Save, Roll, Connect, Margin, Client}
 use Rattle.group_model.specs.Field.{Field, Reply, Answers, Unreadable, Nothing}
 use Rattle.group_model.specs.Group.{Setup, Group, Sent, Answered, numbered, but, core_of, saves_of, is_client, keeps}
@@ -21,7 +21,7 @@ module _ {M F : Type 0} where
   -- the group after what happened has these events behind it
   abbrev pub HasPast : List Event → Happening M F → Type 0
   HasPast past (Happened came g) = g.past ≡ past
-  HasPast past Broken = Unit {0}
+  HasPast past (Broken at f) = Unit {0}
   HasPast past Unanswered = Unit {0}
 
   unless_past : (field : Field M F) (b : Bool) (refusal : GroupRefusal) (g : Group M F) (next : Group M F → Happening M F) → HasPast g.past (next g) → HasPast g.past (happening.unless field b refusal g next)
@@ -31,7 +31,7 @@ module _ {M F : Type 0} where
   module _ (field : Field M F) (g : Group M F) where
     replied_past : (r : ℕ) (reply : Reply M F) → HasPast g.past (happening.replied field r g reply)
     replied_past r (Answers batch sent f) = refl
-    replied_past r Unreadable = tt
+    replied_past r (Unreadable at f) = tt
     replied_past r Nothing = tt
 
     tells_past : (r : ℕ) (input : HostInput M) → HasPast g.past (happening.tells field r input g)
@@ -41,9 +41,9 @@ module _ {M F : Type 0} where
     connected_past past x [] f next h = h f
     connected_past past x (r ∷ rs) f next h = by_reply (λ f. connected_past past x rs f next h) (field.call f r (Connect x))
       where
-        by_reply : ((f : F) → HasPast past (happening.connected field x rs f next)) → (reply : Reply M F) → HasPast past (elim reply [ Answers batch sent f ↦ happening.connected field x rs f next | Unreadable ↦ Broken | Nothing ↦ Unanswered ])
+        by_reply : ((f : F) → HasPast past (happening.connected field x rs f next)) → (reply : Reply M F) → HasPast past (elim reply [ Answers batch sent f ↦ happening.connected field x rs f next | Unreadable at g ↦ Broken at g | Nothing ↦ Unanswered ])
         by_reply rest (Answers batch sent f) = rest f
-        by_reply rest Unreadable = tt
+        by_reply rest (Unreadable at f) = tt
         by_reply rest Nothing = tt
 
     starts_past : (x : ℕ) → HasPast g.past (happening.starts field x g)
@@ -57,7 +57,7 @@ module _ {M F : Type 0} where
       where
         handed : (reply : Reply M F) → HasPast g.past (happening.replied field m.to (record g { waiting = but k g.waiting }) reply)
         handed (Answers batch sent f) = refl
-        handed Unreadable = tt
+        handed (Unreadable at f) = tt
         handed Nothing = tt
 
     loses_past : (k : ℕ) (o : Option (Sent M)) → HasPast g.past (happening.loses field k o g)
@@ -68,7 +68,7 @@ module _ {M F : Type 0} where
     rolled_past r (Answers batch sent f) =
         let h : Group M F = keeps g r batch sent f in
         cond_both (is_none batch.refused) (record h { rolled = r ∷ h.rolled }) h (λ (x : Group M F). x.past ≡ g.past) (λ b. refl) (λ b. refl)
-    rolled_past r Unreadable = tt
+    rolled_past r (Unreadable at f) = tt
     rolled_past r Nothing = tt
 
     rolls_past : (r k : ℕ) → HasPast g.past (happening.rolls field r k g)

@@ -1,2 +1,4 @@
 pub mod Reported
 pub mod Printed
+pub mod HaltLines
+pub mod Bytes

@@ -1,6 +1,6 @@
 -- What clients report in schedules.
 use Rattle.std.specs.Prelude.{ℕ, List}
-use Rattle.svr_base.specs.declared.ids.ClientId.{ClientId}
+use Rattle.values.specs.declared.ids.ClientId.{ClientId}
 use Rattle.replica_model.specs.Path.{Link}
 use Rattle.group_model.specs.Run.{World}
 use Rattle.group_model.specs.Log.{WithinBound, NoCollision}

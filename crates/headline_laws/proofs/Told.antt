@@ -3,11 +3,11 @@ use Rattle.std.proofs.Common.{◌≡◌, ℕ, zero, suc, ◌+◌, ◌*◌, ◌%�
 use Rattle.std.specs.Prelude.{reverse, is_some, IfSome}
 use Rattle.std.specs.List.{AllByRecursion}
 use Rattle.std.proofs.lemmas.List.Sums.{sum_by-cons}
-use Rattle.svr_base.specs.declared.event.Event.{Event}
-use Rattle.svr_base.specs.declared.event.Event.TheVariants as event
+use Rattle.values.specs.declared.event.Event.{Event}
+use Rattle.values.specs.declared.event.Event.TheVariants as event
 use Rattle.group_quorum.specs.Conf.{Conf}
 use Rattle.group_quorum.specs.Voters.{is_in}
-use Rattle.schedule_model.specs.Cutting.{Fields, records_of}
+use Rattle.record_cutting.specs.Lines.{Record, records_of}
 use Rattle.schedule_model.specs.Drill.{exchange, stores, wishes, wish, client, all_store, all_wish, drill_events}
 use Rattle.replica_model.specs.Path.{Link}
 use Rattle.replica_model.specs.Message.{Message}
@@ -22,10 +22,10 @@ use Rattle.trace_model.specs.Schedules.{played_of, world_of}
 use Rattle.trace_model.specs.Summary.{halts, drill_played}
 use Rattle.trace_model.specs.Claims.{ScheduleIsARun, DrivenIsARun, DrillHolds, drill_world}
 use Rattle.trace_model.specs.Driven.{driven_world}
-use Rattle.headline_laws.proofs.Played.{PlaysRun, IsRun, all_end, expanded_run}
-use Rattle.halt_lines.specs.HaltLines.{NoHaltLine, DrivenNoHalt}
-use Rattle.halt_lines.proofs.Calm.{IsNoRoll}
-use Rattle.halt_lines.proofs.Playing.{Plays, all_plays, record_plays, expanded_plays, whole_fine, last_rolled}
+use Rattle.headline_laws.proofs.Played.{IsRun, all_end, expanded_run}
+use Rattle.headline_laws.specs.HaltLines.{NoHaltLine, DrivenNoHalt}
+use Rattle.headline_laws.proofs.Calm.{IsNoRoll}
+use Rattle.headline_laws.proofs.Playing.{Plays, all_plays, record_plays, expanded_plays, whole_fine, last_rolled}
 
 count_step : {A : Type 0} (f : A → Bool) (x : A) (xs : List A) → f x ≡ false → count_by f xs ≡ 0 → count_by f (x ∷ xs) ≡ 0
 count_step f x xs fails none =
@@ -49,7 +49,7 @@ module _ (no_halt : NoHalt) (link : Link) (w : World) (is : IsRun link w) (unrol
   halts_none : halts w ≡ 0
   halts_none = none_halts w.field.history laws_of.no_halt_told
 
-all_records : (link : Link) (p : Playing Message Enclaves) (records : List Fields) → AllByRecursion (λ (r : Fields). Unit {0}) records
+all_records : (link : Link) (p : Playing Message Enclaves) (records : List Record) → AllByRecursion (λ (r : Record). Unit {0}) records
 all_records link p [] = tt
 all_records link p (r ∷ records) = (tt, all_records link p records)
 
@@ -125,7 +125,7 @@ drill_holds_of one_log no_halt link seed clients none =
     let w : World = drill_world link seed clients in
     let plays : Plays (Unit {0}) start (drill_played link seed clients) =
     all_plays (Unit {0}) (expanded (enclaves link)) Fine (λ p e fine. expanded_plays (Unit {0}) link p e fine) start (drill_events seed clients) (drill_fine seed clients) in
-    let is : IsRun link w = all_end (PlaysRun link) (expanded (enclaves link)) (λ p e good. expanded_run link p e good) start (drill_events seed clients) refl in
+    let is : IsRun link w = all_end (λ (q : Playing Message Enclaves). IsRun link q.group) (expanded (enclaves link)) (λ p e good. expanded_run link p e good) start (drill_events seed clients) refl in
     let unrolled : w.rolled ≡ [] = last_rolled (Unit {0}) start (drill_played link seed clients) plays tt in (
       subst OneLogLaws (sym is) (one_log link (reverse w.past) (subst WithinBound is (within_none w unrolled)) (subst (NoCollision link) is none)),
       halts_none no_halt link w is unrolled none,

@@ -1,26 +1,26 @@
 -- Lines that tell of no halt.
 use Rattle.std.proofs.Common.{◌≡◌, ℕ, Option, Some, None, List, [], ◌∷◌, ◌++◌, map, refl, sym, ap, ◌∙◌, append-nil, append_assoc}
 use Rattle.std.specs.List.{AllByRecursion, enumerate_from}
-use Rattle.svr_base.specs.declared.batch.Batch.{Batch}
-use Rattle.svr_base.specs.declared.entry.LogEntry.{LogEntry}
-use Rattle.svr_base.specs.declared.entry.Hash.{Hash}
-use Rattle.svr_base.specs.declared.ids.ClientId.{ClientId}
-use Rattle.svr_base.specs.declared.message.Answer.{Answer}
-use Rattle.svr_base.specs.declared.peer.PeerMsg.{PeerMsg}
+use Rattle.values.specs.declared.batch.Batch.{Batch}
+use Rattle.values.specs.declared.entry.LogEntry.{LogEntry}
+use Rattle.values.specs.declared.entry.Hash.{Hash}
+use Rattle.values.specs.declared.ids.ClientId.{ClientId}
+use Rattle.values.specs.declared.message.Answer.{Answer}
+use Rattle.values.specs.declared.peer.PeerMsg.{PeerMsg}
 use Rattle.schedule_model.specs.Lines.{Line, lines_text, line_text, refused_line, refusal_fields, item_line, batch_lines, lead_line, members_line, halt_line, taken_line, commit_line, answer_line, sent_line, saved_line}
 use Rattle.log_laws.proofs.Ending.{all-append}
 use Rattle.trace_model.specs.TraceLines.{Form, form_fields, RefusedForm, LeadForm, MembersForm, TakenForm, CommitForm, AnswerForm, SentForm, SavedForm}
-use Rattle.halt_lines.specs.HaltLines.{TellsNoHalt, IsWithoutHalt}
+use Rattle.headline_laws.specs.HaltLines.{TellsNoHalt, IsWithoutHalt}
 
 -- lines of forms that tell of no halt
 abbrev pub AreWithoutHalt : List Line → Type 0
 AreWithoutHalt lines = (forms : List Form) × (lines ≡ map form_fields forms) × AllByRecursion TellsNoHalt forms
 
-map_append : {A B : Type 0} (f : A → B) (xs ys : List A) → map f (xs ++ ys) ≡ map f xs ++ map f ys
+pub map_append : {A B : Type 0} (f : A → B) (xs ys : List A) → map f (xs ++ ys) ≡ map f xs ++ map f ys
 map_append f [] ys = refl
 map_append f (x ∷ xs) ys = ap (λ zs. f x ∷ zs) (map_append f xs ys)
 
-text_append : (xs ys : List Line) → lines_text (xs ++ ys) ≡ lines_text xs ++ lines_text ys
+pub text_append : (xs ys : List Line) → lines_text (xs ++ ys) ≡ lines_text xs ++ lines_text ys
 text_append [] ys = refl
 text_append (x ∷ xs) ys = ap (λ t. line_text x ++ t) (text_append xs ys) ∙ sym (append_assoc (line_text x) (lines_text xs) (lines_text ys))
 

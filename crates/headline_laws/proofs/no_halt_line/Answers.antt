@@ -1,5 +1,5 @@
-use Rattle.halt_lines.proofs.Told.{no_halt_line_of, driven_none_of}
-use Rattle.halt_lines.proofs.no_halt_line.Goals as goal
+use Rattle.headline_laws.proofs.Told.{no_halt_line_of, driven_none_of}
+use Rattle.headline_laws.proofs.no_halt_line.Goals as goal
 
 pub returns-clause-played : goal.returns-clause-played
 returns-clause-played c link bytes unrolled none = no_halt_line_of c.schedules_are_runs.ensures.played c.no_halt.ensures link bytes unrolled none

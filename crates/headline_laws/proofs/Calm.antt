@@ -6,13 +6,13 @@ use Rattle.std.proofs.lemmas.Bool.{cond_both}
 use Rattle.group_quorum.specs.Conf.{Conf}
 use Rattle.group_quorum.specs.Voters.{conf_of, is_in}
 use Rattle.group_quorum.specs.declared.ConfigFault.{ConfigFault}
-use Rattle.svr_base.specs.declared.event.Event.{Event}
-use Rattle.svr_base.specs.declared.event.Event.TheVariants as event
-use Rattle.svr_base.specs.declared.ids.ClientId.{ClientId}
-use Rattle.svr_base.specs.declared.want.Report.{Report}
-use Rattle.svr_base.specs.declared.want.WantFault.{WantFault}
+use Rattle.values.specs.declared.event.Event.{Event}
+use Rattle.values.specs.declared.event.Event.TheVariants as event
+use Rattle.values.specs.declared.ids.ClientId.{ClientId}
+use Rattle.values.specs.declared.want.Report.{Report}
+use Rattle.values.specs.declared.want.WantFault.{WantFault}
 use Rattle.schedule_model.specs.Client.{Core, new_core, wanted}
-use Rattle.schedule_model.specs.Lines.{GroupRefusal}
+use Rattle.schedule_model.specs.Refusals.{GroupRefusal}
 use Rattle.replica_model.specs.Path.{Link}
 use Rattle.replica_model.specs.Keyed.{value_at}
 use Rattle.replica_model.specs.Message.{Message}
@@ -48,7 +48,7 @@ pub record Goes (NoRoll : Type 0) (rolled : List ℕ) (before : Enclaves) (came 
 
 abbrev pub Calm : Type 0 → World → Happening Message Enclaves → Type 0
 Calm NoRoll g (Happened came h) = Goes NoRoll g.rolled g.field came h.rolled h.field
-Calm NoRoll g Broken = Unit {0}
+Calm NoRoll g (Broken at f) = Unit {0}
 Calm NoRoll g Unanswered = Unit {0}
 
 module _ (link : Link) (NoRoll : Type 0) (g : World) where
@@ -99,7 +99,7 @@ module _ (link : Link) (NoRoll : Type 0) (g : World) where
   connected_calm x (r ∷ rs) running f back = linked (value_at f.running r) (λ f back. connected_calm x rs running f back)
     where
       linked : (o : Option Enclave) → ((f : Enclaves) → (IsUntold f → IsUntold g.field) → Calm NoRoll g (happening.connected (enclaves link) x rs f (λ f. Happened Passed (record g { running = running; started = x ∷ g.started; field = f }))))
-          → Calm NoRoll g (elim (call_enclave link f r (Connect x) o) [ Answers batch sent h ↦ happening.connected (enclaves link) x rs h (λ f. Happened Passed (record g { running = running; started = x ∷ g.started; field = f })) | Unreadable ↦ Broken | Nothing ↦ Unanswered ])
+          → Calm NoRoll g (elim (call_enclave link f r (Connect x) o) [ Answers batch sent h ↦ happening.connected (enclaves link) x rs h (λ f. Happened Passed (record g { running = running; started = x ∷ g.started; field = f })) | Unreadable at g ↦ Broken at g | Nothing ↦ Unanswered ])
       linked None rest = tt
       linked (Some e) rest = rest (moves f r e.replica (Some (Connect x)) (called link e (Connect x))) (λ u. back u.1)
 

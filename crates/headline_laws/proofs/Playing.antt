@@ -2,10 +2,11 @@
 use Rattle.std.proofs.Common.{◌≡◌, ℕ, ◌+◌, zero, suc, false, Option, Some, None, Result, Ok, Err, List, [], ◌∷◌, length, refl, ◌∙◌, subst}
 use Rattle.std.specs.Prelude.{is_some}
 use Rattle.std.specs.List.{AllByRecursion}
-use Rattle.svr_base.specs.declared.event.Event.{Event}
-use Rattle.svr_base.specs.declared.event.Event.TheVariants as event
-use Rattle.schedule_model.specs.Cutting.{Fields}
-use Rattle.schedule_model.specs.Lines.{Quantity, event_line}
+use Rattle.values.specs.declared.event.Event.{Event}
+use Rattle.values.specs.declared.event.Event.TheVariants as event
+use Rattle.record_cutting.specs.Lines.{Record}
+use Rattle.schedule_model.specs.Lines.{event_line}
+use Rattle.schedule_model.specs.Quantities.{Quantity}
 use Rattle.schedule_model.specs.Reading.{RecordFault}
 use Rattle.schedule_model.specs.Records.{event_of}
 use Rattle.schedule_model.specs.Written.{Written, On, Off, Stop, AtRecord, AtLimit, AtFrame, AtField, onto, follow, all_written, last_of, text_with, stopped_text}
@@ -17,9 +18,9 @@ use Rattle.group_model.specs.Run.{Enclaves, World, enclaves}
 use Rattle.trace_model.specs.Limits.{passed_before, passed_after}
 use Rattle.trace_model.specs.Trace.{Playing, counted, came_lines, closing, happened_text, within_limits, happened, tried, played, settled, expanded, said, record_played}
 use Rattle.trace_model.specs.TraceLines.{EventForm, RefusedByGroup, ClientForm, LogForm, RollbacksForm, EndForm, StoppedAtRecord, StoppedAtLimit, StoppedAtFrame}
-use Rattle.halt_lines.specs.HaltLines.{IsWithoutHalt}
-use Rattle.halt_lines.proofs.Calm.{IsUntold, CameCalm, IsNoRoll, Goes, Calm, happens_calm}
-use Rattle.halt_lines.proofs.Texts.{AreWithoutHalt, lines_nil, line_one, batch_calm, text_nil, text_of_lines, text_cat, text_one}
+use Rattle.headline_laws.specs.HaltLines.{IsWithoutHalt}
+use Rattle.headline_laws.proofs.Calm.{IsUntold, CameCalm, IsNoRoll, Goes, Calm, happens_calm}
+use Rattle.headline_laws.proofs.Texts.{AreWithoutHalt, lines_nil, line_one, batch_calm, text_nil, text_of_lines, text_cat, text_one}
 
 -- from one group to a later one, with what is written on the way: where no halt is told by then, none was told before, nor
 -- is one written
@@ -73,7 +74,7 @@ module _ (NoRoll : Type 0) where
 
       happened_plays : (h : Happening Message Enclaves) → happens (enclaves link) e p.group ≡ h → Plays NoRoll p (happened (enclaves link) p e h)
       happened_plays (Happened came g) is = within_plays came g (passed_after g) (subst (Calm (IsNoRoll e) p.group) is (happens_calm link e p.group))
-      happened_plays Broken is = nothing_played p
+      happened_plays (Broken at f) is = nothing_played p
       happened_plays Unanswered is = nothing_played p
 
       tried_plays : (o : Option Quantity) → Plays NoRoll p (tried (enclaves link) p e o)
@@ -102,7 +103,7 @@ module _ (link : Link) where
   said_plays p (Ok (Some e)) = expanded_plays ⊥ link (counted p) e (λ never. absurd never)
   said_plays p (Err fault) = nothing_played ⊥ p
 
-  pub record_plays : (p : Play) (fields : Fields) → Plays ⊥ p (record_played (enclaves link) p fields)
+  pub record_plays : (p : Play) (fields : Record) → Plays ⊥ p (record_played (enclaves link) p fields)
   record_plays p fields = said_plays p (event_of false (is_some p.group.setup) fields)
 
 -- the end of a text
@@ -112,7 +113,7 @@ closing_fine p = text_of_lines _ (line_one (LogForm _) _ tt (line_one (Rollbacks
 stopped_fine : (stop : Stop) → IsWithoutHalt (stopped_text stop)
 stopped_fine (AtRecord number fault) = text_one (StoppedAtRecord number fault) tt
 stopped_fine (AtLimit passed) = text_one (StoppedAtLimit passed) tt
-stopped_fine AtFrame = text_one StoppedAtFrame tt
+stopped_fine (AtFrame at) = text_one StoppedAtFrame tt
 stopped_fine AtField = text_nil
 
 -- the whole text

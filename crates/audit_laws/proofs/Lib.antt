@@ -1,0 +1,12 @@
+mod Texts
+mod Passing
+mod Batches
+mod Stepping
+mod Walking
+mod Sources
+mod Lines
+mod ReadRecords
+mod ReadFaults
+mod Ranges
+mod Playing
+mod Whole

@@ -1,4 +1,0 @@
-mod Calm
-mod Texts
-mod Playing
-mod Told

@@ -1,0 +1,15 @@
+pub mod Bounds
+pub mod Replies
+pub mod Written
+pub mod Raising
+pub mod Confs
+pub mod Rules
+pub mod Hearing
+pub mod Stepping
+pub mod Handed
+pub mod Worlds
+pub mod Events
+pub mod ReadBack
+pub mod ReadEvents
+pub mod OwnLink
+pub mod Colliding
