@@ -1,0 +1,17 @@
+mod Numbers
+mod Setting
+mod Follows
+mod Leads
+mod Asking
+mod Queue
+mod Worlds
+mod Events
+mod Rounds
+mod Simulated
+mod Plays
+mod Exchanges
+mod Tables
+mod Starting
+mod Clients
+mod Storing
+mod Drills
