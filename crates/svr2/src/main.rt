@@ -31,6 +31,7 @@ fn name(status: Status) -> &'static str {
         Status::Schedule => "schedule",
         Status::ReadFault => "read fault",
         Status::WriteFault => "write fault",
+        Status::FieldFault => "field fault",
         Status::Limit => "limit",
     }
 }
@@ -47,5 +48,5 @@ fn main(rt: HostRuntime) -> ExitCode {
     if status != Status::Done {
         let _ = eprintln!(rt; "svr2: {}", name(status));
     }
-    ExitCode::from(status as u8)
+    ExitCode::from(status.code())
 }

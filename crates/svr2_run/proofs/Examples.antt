@@ -5,7 +5,7 @@ use Rattle.hex.proofs.OnLiterals.{hex_on_literals}
 use Rattle.proto_wire.specs.Varint.{groups, number_in}
 use Rattle.proto_wire.specs.Fields.{payload_field, field_at, sequence_behind}
 use Rattle.std.specs.Fmt.{digits}
-use Rattle.record_stream.specs.Lines.{last_part, line_records, whole_lines}
+use Rattle.record_cutting.specs.Lines.{last_part, line_records, whole_lines}
 use Rattle.svr2_run.specs.Numbers.{bytes_of, client_of, digits_from, number_of, number_within}
 use Rattle.svr2_run.specs.Form.{ask_of, ask_parts, backup_of, begin_of, is_backup, tick_of}
 use Rattle.svr2_run.specs.Trace.{answer_line, ask_line, begin_line, closing_text, commit_line, in_form, in_form_from, lead_line, outcome_text, stopped_line, text_from, tick_line, trace_of}

@@ -1,20 +1,21 @@
 -- What the engine's end says of a run.
-use Rattle.std.proofs.Common.{refl, sym, ap, subst, ◌∙◌, ◌≡◌, ◌≢◌, ◌+◌, ◌≤◌, ◌<◌, ℕ, List, [], ◌∷◌, ◌++◌, length, take, Bool, true, false, if◌then◌else◌, Option, Some, None, IfSome, append_assoc, inl, inr}
+use Rattle.std.proofs.Common.{arith, refl, sym, ap, subst, ◌∙◌, ◌≡◌, ◌≢◌, ◌+◌, ◌≤◌, ◌<◌, ℕ, List, [], ◌∷◌, ◌++◌, length, take, Bool, true, false, if◌then◌else◌, Option, Some, None, IfSome, append_assoc, append-nil, inl, inr}
 use Rattle.std.specs.Io.KnownBytes.{Appends, Consumes}
-use Rattle.svr_base.specs.Streams.{AppendsPrefix}
+use Rattle.std.proofs.KnownBytes.{Appends-nil}
+use Rattle.byte_streams.specs.Causes.{Rose}
+use Rattle.record_stream.specs.Alone.{none_asked, one_course}
 use Rattle.record_stream.specs.Course.{Course}
-use Rattle.record_stream.specs.Lines.{Record, records_of, whole_records}
-use Rattle.record_stream.specs.Ends.{EndsOver, ended_for, limit}
+use Rattle.record_cutting.specs.Lines.{Record, records_of, whole_lines, whole_records}
+use Rattle.record_stream.specs.Ends as stream
+use Rattle.record_stream.specs.Ends.{CanDecide, EndsOver, PlayedOver, ended_for, limit}
 use Rattle.record_stream.specs.declared.source.Ended.{Ended}
 use Rattle.record_stream.specs.declared.source.Ended.TheVariants as ended
 use Rattle.schedule_model.specs.Written.{Off, On, Stop, Written, all_written, no_closing, stopped_text, text_with}
-use Rattle.schedule_model.specs.Cutting as schedule
 use Rattle.schedule_text.specs.declared.fault.Stopped.{Stopped}
 use Rattle.schedule_text.specs.declared.fault.Stopped.TheVariants as stopped
-use Rattle.trace_model.specs.TableText.{Applied, rows_line, table_played, table_text}
+use Rattle.table_model.specs.TableText.{Applied, rows_line, table_played, table_text}
 use Rattle.table_command.specs.Course as table
 use Rattle.table_command.specs.Text.{start as empty}
-use Rattle.table_command.proofs.SameRecords.{same_records, same_whole_records}
 use Rattle.svr2_run.specs.Form.{event_of}
 use Rattle.svr2_run.specs.Trace.{World, after, course_from, form_then, in_form, in_form_from, lines_of as event_lines, lines_then, start, stopped_line, text_from}
 use Rattle.svr2_run.specs.Run.{CutOff, EndsStopped, RunsOver, StoppedBy, WroteLines, lines_of, status_by, status_for, status_of, stop_of, text_of, whole_stop_of}
@@ -62,23 +63,23 @@ course_of (Table rows) = table.course_from (empty rows)
 
 pub text_is : (command : Command) (all : List ℕ) → (course_of command).text true (records_of all) ≡ text_of command all
 text_is Replay all = refl
-text_is (Table rows) all = ap (λ (rs : List Record). text_with rows_line (all_written table_played (empty rows) rs)) (same_records all)
+text_is (Table rows) all = refl
 
 lines_are : (command : Command) (bytes : List ℕ) → (course_of command).text false (whole_records bytes) ≡ lines_of command bytes
 lines_are Replay bytes = refl
-lines_are (Table rows) bytes = ap (λ (rs : List Record). text_with no_closing (all_written table_played (empty rows) rs)) (same_whole_records bytes)
+lines_are (Table rows) bytes = refl
 
 reason_is : (command : Command) (all : List ℕ) → (course_of command).reason (records_of all) ≡ stop_of command all
 reason_is Replay all = refl
-reason_is (Table rows) all = ap (λ (rs : List Record). table.cause_in (all_written table_played (empty rows) rs)) (same_records all)
+reason_is (Table rows) all = refl
 
 whole_reason_is : (command : Command) (bytes : List ℕ) → (course_of command).reason (whole_records bytes) ≡ whole_stop_of command bytes
 whole_reason_is Replay bytes = refl
-whole_reason_is (Table rows) bytes = ap (λ (rs : List Record). table.cause_in (all_written table_played (empty rows) rs)) (same_whole_records bytes)
+whole_reason_is (Table rows) bytes = refl
 
 stop_line : (command : Command) (all : List ℕ) (why : Stopped) → stop_of command all ≡ Some why → EndsStopped command (text_of command all)
 stop_line Replay all why e = ends_stopped start (records_of all) (unformed (in_form all) why e)
-stop_line (Table rows) all why e = off_ends rows why (all_written table_played (empty rows) (schedule.records_of all)) e
+stop_line (Table rows) all why e = off_ends rows why (all_written table_played (empty rows) (records_of all)) e
 
 -- ---- by how the engine ended
 
@@ -95,45 +96,107 @@ wrote_lines command bytes x y unstopped lines = record {
   lines = subst (Appends x y) (lines_are command bytes) lines;
 }
 
-runs_over : (command : Command) (all : List ℕ) (left x y : Option (List ℕ)) (e : Ended Stopped) → EndsOver (course_of command) all left x y e → RunsOver command all left x y (status_of e)
-runs_over command all left x y ended.Done (end, small, unstopped, text) =
-    (end, small, sym (reason_is command all) ∙ unstopped, subst (Appends x y) (text_is command all) text)
-runs_over command all left x y (ended.Stopped stopped.AtRecord) (reason, text) = stopped_by command stopped.AtRecord all x y reason text
-runs_over command all left x y (ended.Stopped stopped.AtLimit) (reason, text) = inr (stopped_by command stopped.AtLimit all x y reason text)
-runs_over command all left x y ended.ReadFault (read, consumed, unstopped, lines) = (read, consumed, wrote_lines command read x y unstopped lines)
-runs_over command all left x y ended.Limit (long, unstopped, lines) = inl (long, wrote_lines command (take limit all) x y unstopped lines)
-runs_over command all left x y ended.Memory h = subst (λ (text : List ℕ). AppendsPrefix x y text) (text_is command all) h
-runs_over command all left x y ended.WriteFault (read, written, rest, consumed, ahead, text, gained) =
-    let is = ahead.gained ∙ ap (λ (l : List ℕ). l ++ ahead.rest) (lines_are command ahead.before) in
-    record {
-      before = ahead.before;
-      piece = ahead.piece;
-      read = subst (λ (l : List ℕ). Consumes (Some all) left l) ahead.parts consumed;
-      short = ahead.short;
-      more = ahead.rest;
-      rest = rest;
-      text = sym (text_is command all) ∙ text ∙ ap (λ (l : List ℕ). l ++ rest) is;
-      gained = subst (Appends x y) is gained;
-    }
+cut_off : (command : Command) (all : List ℕ) (left x y : Option (List ℕ)) → (read : List ℕ) × Consumes (Some all) left read × stream.CutOff (course_of command) read left x y → CutOff command all left x y
+cut_off command all left x y (read, consumed, cut) = record {
+  read = read;
+  consumed = consumed;
+  written = cut.written;
+  of_read = elim cut.of_read [
+    | inl (rest, e) ↦ inl (rest, sym (lines_are command (take limit read)) ∙ e)
+    | inr (end, few, (rest, e)) ↦ inr (end, few, (rest, sym (text_is command read) ∙ e))
+  ];
+  before = cut.ahead.before;
+  piece = cut.ahead.piece;
+  rest = cut.ahead.rest;
+  parts = cut.ahead.parts;
+  short = cut.ahead.short;
+  lines = cut.ahead.gained ∙ ap (λ (l : List ℕ). l ++ cut.ahead.rest) (lines_are command cut.ahead.before);
+  gained = cut.gained;
+}
 
-pub told_runs : (command : Command) (left left' x y : Option (List ℕ)) (e : Ended Stopped) (s : Status) → s ≡ status_of e
-    → IfSome left (λ all. EndsOver (course_of command) all left' x y e) → IfSome left (λ all. RunsOver command all left' x y s)
-told_runs command None left' x y e s is h = tt
-told_runs command (Some all) left' x y e s is h = rw is (runs_over command all left' x y e h)
+-- nothing that is asked by no one fails
+none_rose : Rose 0 0 → ⊥
+none_rose (inl lt) = omega arith
+none_rose (inr e) = omega arith
+
+runs_over : (command : Command) (all : List ℕ) (left x y : Option (List ℕ)) (e : Ended Stopped) → (e ≡ ended.Failed → Rose 0 0) → EndsOver (course_of command) all left x y e
+    → RunsOver command all left x y (status_of e)
+runs_over command all left x y ended.Done never (end, small, unstopped, text) =
+    (end, small, sym (reason_is command all) ∙ unstopped.0, subst (Appends x y) (text_is command all) text)
+runs_over command all left x y (ended.Stopped stopped.AtRecord) never (reason, text) = stopped_by command stopped.AtRecord all x y reason.0 text
+runs_over command all left x y (ended.Stopped stopped.AtLimit) never (reason, text) = inr (stopped_by command stopped.AtLimit all x y reason.0 text)
+runs_over command all left x y ended.ReadFault never (read, consumed, unstopped, lines) = (read, consumed, wrote_lines command read x y unstopped lines)
+runs_over command all left x y ended.Limit never (long, unstopped, lines) = inl (long, wrote_lines command (take limit all) x y unstopped lines)
+runs_over command all left x y ended.Memory never cut = cut_off command all left x y cut
+runs_over command all left x y ended.WriteFault never cut = cut_off command all left x y cut
+runs_over command all left x y ended.Failed never cut = none_rose (never refl)
+
+-- what is said of a player that asks for nothing itself
+abbrev Said : Command → List ℕ → (left x y : Option (List ℕ)) → Ended Stopped → Type 0
+Said command all left x y e = EndsOver (course_of command) all left x y e × (length all ≤ limit → CanDecide e → e ≡ ended_for ((course_of command).reason (records_of all)))
+
+pub one_ends : {S : Type 0} (course : S → Course Stopped) (p q : S) (command : Command) (left left' x y : Option (List ℕ)) (e : Ended Stopped) → course p ≡ course_of command
+    → IfSome left (λ all. PlayedOver none_asked (one_course course) p q all left' x y e) → IfSome left (λ all. Said command all left' x y e)
+one_ends course p q command None left' x y e is h = tt
+one_ends course p q command (Some all) left' x y e is h = (h.ends (course_of command) (sym is), h.reason (course_of command) (sym is))
+
+pub told_runs : (command : Command) (left left' x y : Option (List ℕ)) (e : Ended Stopped) (s : Status) → s ≡ status_of e → (e ≡ ended.Failed → Rose 0 0)
+    → IfSome left (λ all. Said command all left' x y e) → IfSome left (λ all. RunsOver command all left' x y s)
+told_runs command None left' x y e s is never h = tt
+told_runs command (Some all) left' x y e s is never h = rw is (runs_over command all left' x y e never h.0)
 
 decided_for : (why : Option Stopped) → status_of (ended_for why) ≡ status_by why
 decided_for None = refl
 decided_for (Some why) = refl
 
-not_memory : (e : Ended Stopped) → status_of e ≢ status.Memory → e ≢ ended.Memory
-not_memory e ne is = ne (ap status_of is)
+-- no other cause than the records
+can_decide : (e : Ended Stopped) (A B : Type 0) → status_of e ≢ status.Memory → (e ≡ ended.ReadFault → A) → (e ≡ ended.WriteFault → B) → (e ≡ ended.Failed → Rose 0 0) → (A → ⊥) → (B → ⊥) → CanDecide e
+can_decide e A B nm read write never na nb = ((λ is. nm (ap status_of is)), ((λ is. na (read is)), ((λ is. nb (write is)), (λ is. none_rose (never is)))))
 
-pub told_decided : (command : Command) (left : Option (List ℕ)) (e : Ended Stopped) (s : Status) (A B : Type 0) → s ≡ status_of e
-    → IfSome left (λ all. length all ≤ limit → (A → ⊥) → (B → ⊥) → e ≢ ended.Memory → e ≡ ended_for ((course_of command).reason (records_of all)))
+pub told_decided : (command : Command) (left left' x y : Option (List ℕ)) (e : Ended Stopped) (s : Status) (A B : Type 0) → s ≡ status_of e
+    → (e ≡ ended.ReadFault → A) → (e ≡ ended.WriteFault → B) → (e ≡ ended.Failed → Rose 0 0)
+    → IfSome left (λ all. Said command all left' x y e)
     → IfSome left (λ all. length all ≤ limit → (A → ⊥) → (B → ⊥) → s ≢ status.Memory → s ≡ status_by (stop_of command all))
-told_decided command None e s A B is h = tt
-told_decided command (Some all) e s A B is h = λ small na nb nm.
-    is ∙ ap status_of (h small na nb (not_memory e (λ m. nm (is ∙ m)))) ∙ decided_for ((course_of command).reason (records_of all)) ∙ ap status_by (reason_is command all)
+told_decided command None left' x y e s A B is read write never h = tt
+told_decided command (Some all) left' x y e s A B is read write never h = λ small na nb nm.
+    is ∙ ap status_of (h.1 small (can_decide e A B (λ m. nm (is ∙ m)) read write never na nb)) ∙ decided_for ((course_of command).reason (records_of all)) ∙ ap status_by (reason_is command all)
+
+pub never_field : (e : Ended Stopped) (s : Status) → s ≡ status_of e → (e ≡ ended.Failed → Rose 0 0) → s ≢ status.FieldFault
+never_field ended.Done s is never f = cc (sym is ∙ f)
+never_field (ended.Stopped stopped.AtRecord) s is never f = cc (sym is ∙ f)
+never_field (ended.Stopped stopped.AtLimit) s is never f = cc (sym is ∙ f)
+never_field ended.ReadFault s is never f = cc (sym is ∙ f)
+never_field ended.Limit s is never f = cc (sym is ∙ f)
+never_field ended.Memory s is never f = cc (sym is ∙ f)
+never_field ended.WriteFault s is never f = cc (sym is ∙ f)
+never_field ended.Failed s is never f = none_rose (never refl)
+
+-- ---- nothing was read
+
+no_lines : (command : Command) → lines_of command [] ≡ []
+unfolding whole_lines text_from all_written
+no_lines Replay = refl
+no_lines (Table rows) = refl
+
+cut_before : (command : Command) (all : List ℕ) (x : Option (List ℕ)) → CutOff command all (Some all) x x
+cut_before command all x = record {
+  read = [];
+  consumed = refl;
+  written = [];
+  of_read = inl (lines_of command (take limit []), refl);
+  before = [];
+  piece = [];
+  rest = [];
+  parts = refl;
+  short = omega arith;
+  lines = sym (append-nil (lines_of command []) ∙ no_lines command);
+  gained = Appends-nil x;
+}
+
+pub unread_run : (command : Option Command) (left x : Option (List ℕ)) → IfSome command (λ command. IfSome left (λ all. CutOff command all left x x))
+unread_run None left x = tt
+unread_run (Some command) None x = tt
+unread_run (Some command) (Some all) x = cut_before command all x
 
 -- ---- one status
 

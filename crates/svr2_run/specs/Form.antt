@@ -1,13 +1,15 @@
 -- The form of the sources that are built: one voter begins, leads, and takes one backup.
+use Rattle.group_quorum.specs.declared.TheConstants.{MAX_ID}
+use Rattle.values.specs.declared.limits.TheConstants.{MOST_ROWS}
 use Rattle.std.specs.Prelude.{ℕ, ◌-◌, ◌^◌, Bool, false, ◌&&◌, if◌then◌else◌, List, [], ◌∷◌, Option, Some, None, Result, Ok, Err, codes}
 use Rattle.std.specs.Option.{option_and_then}
-use Rattle.svr_base.specs.declared.ids.ClientId.{ClientId}
-use Rattle.svr_base.specs.declared.message.Request.{Request}
-use Rattle.svr_base.specs.declared.message.Request.TheVariants as requests
+use Rattle.values.specs.declared.ids.ClientId.{ClientId}
+use Rattle.values.specs.declared.message.Request.{Request}
+use Rattle.values.specs.declared.message.Request.TheVariants as requests
 use Rattle.client_msgs.specs.declared.fault.RequestFault.{RequestFault}
 use Rattle.client_msgs.specs.Canonical.{canonical_request}
 use Rattle.client_msgs.specs.Reading.{request_of}
-use Rattle.record_stream.specs.Lines.{Record}
+use Rattle.record_cutting.specs.Lines.{Record}
 use Rattle.svr2_run.specs.Numbers.{is, is_number, number_within, client_of, bytes_of}
 use Rattle.svr2_run.specs.declared.event.Event.{Event}
 use Rattle.svr2_run.specs.declared.event.Event.TheVariants.{Begin, Tick, Ask}
@@ -31,7 +33,7 @@ backup_of field = option_and_then (λ bytes. if is_backup bytes then Some bytes 
 -- `begin,0,LIMIT,R`
 unfoldable pub begin_of : Record → Option Event
 begin_of (word ∷ margin ∷ limit ∷ voter ∷ []) =
-    if is word (codes "begin") && is margin (codes "0") then by_numbers (number_within 1 20000 limit) (number_within 1 65535 voter) else None
+    if is word (codes "begin") && is margin (codes "0") then by_numbers (number_within 1 MOST_ROWS limit) (number_within 1 MAX_ID voter) else None
   where
     by_numbers : Option ℕ → Option ℕ → Option Event
     by_numbers (Some l) (Some r) = Some (Begin l r)

@@ -1,15 +1,14 @@
 -- How a run ended.
 use Rattle.std.specs.Prelude.{ℕ, ◌+◌, ◌≡◌, ◌≤◌, ◌<◌, ◌⊎◌, true, false, if◌then◌else◌, List, [], ◌++◌, length, take, Option, Some, None}
-use Rattle.std.specs.Io.KnownBytes.{Appends, Consumes}
-use Rattle.svr_base.specs.Streams.{AppendsPrefix}
-use Rattle.record_stream.specs.Ends.{limit, piece_size}
+use Rattle.std.specs.Io.KnownBytes.{Appends, Consumes, IsAtEnd}
+use Rattle.record_stream.specs.Ends.{IsFrontOf, limit, piece_size}
 use Rattle.record_stream.specs.declared.source.Ended.{Ended}
 use Rattle.record_stream.specs.declared.source.Ended.TheVariants as ended
 use Rattle.schedule_model.specs.Written.{stopped_text}
 use Rattle.schedule_model.specs.Written as written
 use Rattle.schedule_text.specs.declared.fault.Stopped.{Stopped}
 use Rattle.schedule_text.specs.declared.fault.Stopped.TheVariants as stopped
-use Rattle.trace_model.specs.TableText.{table_text}
+use Rattle.table_model.specs.TableText.{table_text}
 use Rattle.table_command.specs.Text.{stop_of_table, table_lines, stop_of_whole}
 use Rattle.svr2_run.specs.Trace.{event_lines_of, in_form, stopped_line, trace_of, whole_in_form}
 use Rattle.svr2_run.specs.declared.command.Status.{Status}
@@ -54,17 +53,22 @@ pub record WroteLines (command : Command) (bytes : List ℕ) (old new : Option (
   pub unstopped : whole_stop_of command bytes ≡ None
   pub lines : Appends old new (lines_of command bytes)
 
--- The sink failed after it had gained first bytes of the text. All that had been read but for the last piece, of at
--- most 65,536 bytes, had been played before: the lines of the records whole in it were gained.
+-- The sink gained first bytes of the lines of the records that stand whole in the bytes read, as far as they are played, or,
+-- where all was read, of these and the closing lines. All that had been read but for the last piece, of at most 65,536 bytes,
+-- had been played before: the lines of the records whole in it were gained.
 pub record CutOff (command : Command) (all : List ℕ) (left old new : Option (List ℕ)) : Type 0 where
+  pub read : List ℕ
+  pub consumed : Consumes (Some all) left read
+  pub written : List ℕ
+  pub of_read : IsFrontOf written (lines_of command (take limit read))
+      ⊎ (IsAtEnd left × (length read ≤ limit) × IsFrontOf written (text_of command read))
   pub before : List ℕ
   pub piece : List ℕ
-  pub read : Consumes (Some all) left (before ++ piece)
-  pub short : length piece ≤ piece_size
-  pub more : List ℕ
   pub rest : List ℕ
-  pub text : text_of command all ≡ (lines_of command before ++ more) ++ rest
-  pub gained : Appends old new (lines_of command before ++ more)
+  pub parts : read ≡ before ++ piece
+  pub short : length piece ≤ piece_size
+  pub lines : written ≡ lines_of command before ++ rest
+  pub gained : Appends old new written
 
 -- one of the records ended the text for this reason, and the sink gained the whole text, which says so
 abbrev pub StoppedBy : Command → Stopped → List ℕ → Option (List ℕ) → Option (List ℕ) → Type 0
@@ -80,7 +84,8 @@ RunsOver command all left old new status.ReadFault = (read : List ℕ) × Consum
 RunsOver command all left old new status.Limit =
     ((limit < length all) × WroteLines command (take limit all) old new) ⊎ StoppedBy command stopped.AtLimit all old new
 RunsOver command all left old new status.WriteFault = CutOff command all left old new
-RunsOver command all left old new status.Memory = AppendsPrefix old new (text_of command all)
+RunsOver command all left old new status.Memory = CutOff command all left old new
+RunsOver command all left old new status.FieldFault = ⊥
 RunsOver command all left old new status.Usage = ⊥
 
 abbrev pub status_for : Stopped → Status
@@ -94,6 +99,7 @@ status_of ended.Memory = status.Memory
 status_of ended.ReadFault = status.ReadFault
 status_of ended.WriteFault = status.WriteFault
 status_of ended.Limit = status.Limit
+status_of ended.Failed = status.FieldFault
 
 -- the status where nothing but the records decides
 abbrev pub status_by : Option Stopped → Status

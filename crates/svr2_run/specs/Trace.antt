@@ -1,9 +1,9 @@
 -- The trace of a source's records.
 use Rattle.std.specs.Prelude.{ℕ, ◌+◌, Bool, true, false, if◌then◌else◌, List, [], ◌∷◌, ◌++◌, length, Option, Some, None, codes, decimal}
 use Rattle.hex.specs.Hex.{encode_lower}
-use Rattle.svr_base.specs.declared.message.Response.TheVariants as responses
+use Rattle.values.specs.declared.message.Response.TheVariants as responses
 use Rattle.client_msgs.specs.Canonical.{canonical_response}
-use Rattle.record_stream.specs.Lines.{Record, records_of, whole_records}
+use Rattle.record_cutting.specs.Lines.{Record, records_of, whole_records}
 use Rattle.record_stream.specs.Course.{Course}
 use Rattle.schedule_text.specs.declared.fault.Stopped.{Stopped}
 use Rattle.schedule_text.specs.declared.fault.Stopped.TheVariants as stopped
@@ -105,11 +105,12 @@ unfoldable pub in_form_from : World → List Record → Bool
 in_form_from w [] = true
 in_form_from w (r ∷ rs) = form_then w (λ v. in_form_from v rs) (event_of w.voter w.path r)
 
--- what a run writes from here on
+-- what a run writes from here on; it asks for nothing itself
 abbrev pub course_from : World → Course Stopped
 course_from w = record {
   text = λ closed rs. text_from closed w rs;
   reason = λ rs. if in_form_from w rs then None else Some stopped.AtRecord;
+  takes_all = λ rs. true;
 }
 
 -- ---- a source's bytes

@@ -1,7 +1,7 @@
 -- What the words of the command line mean.
 use Rattle.std.specs.Prelude.{ℕ, ◌≤◌, ⊤, if◌then◌else◌, List, [], ◌∷◌, Option, Some, None, option_map, option_and_then, Result, Ok, Err, codes, bytes_eq, fold}
 use Rattle.clap.specs.Words.{App, Row, fault_of, first_of, matches_of, new_app, new_rule, with_rule}
-use Rattle.record_table.specs.declared.store.TheConstants.{MOST_ROWS}
+use Rattle.values.specs.declared.limits.TheConstants.{MOST_ROWS}
 use Rattle.schedule_model.specs.Reading.{number_of, RecordFault}
 use Rattle.svr2_run.specs.declared.words.Command.{Command}
 use Rattle.svr2_run.specs.declared.words.Command.TheVariants.{Replay, Table}

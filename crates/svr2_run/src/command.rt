@@ -1,10 +1,9 @@
 //! The top call.
 ghost use Rattle.std.specs.Prelude.{◌≡◌, ◌≢◌, ◌≤◌, ◌<◌, ◌⊎◌, ℕ, [], List, length, map, take, string_bytes, Some, None, IfSome};
 ghost use Rattle.std.specs.Io.KnownBytes.{Appends, Consumes};
-ghost use Rattle.svr_base.specs.Causes.{Rose};
-ghost use Rattle.svr_base.specs.Streams.{AppendsPrefix};
+ghost use Rattle.byte_streams.specs.Causes.{Rose};
 ghost use Rattle.record_stream.specs.Ends.{limit};
-ghost use Rattle.record_table.specs.declared.store.TheConstants.{MOST_ROWS};
+ghost use Rattle.values.specs.declared.limits.TheConstants.{MOST_ROWS};
 ghost use Rattle.svr2_run.specs.Run.{CutOff, RunsOver, StoppedBy, WroteLines, status_by, stop_of, text_of};
 ghost use Rattle.svr2_run.specs.Run as spec;
 ghost use Rattle.svr2_run.specs.Words.{command_of};
@@ -17,23 +16,50 @@ use std::alloc::Global;
 use svr_base::{Memory, Sink, Source};
 use table_command::TablePlayer;
 
-/// How a command ended. The numbers are the exit statuses of the program.
+/// How a command ended.
 #[derive(Clone, Copy, Debug, PartialEq, Eq)]
 pub enum Status {
     /// The source was read to its end, and everything was written.
-    Done = 0,
+    Done,
     /// Want of memory.
-    Memory = 1,
+    Memory,
     /// The words are no command.
-    Usage = 2,
+    Usage,
     /// A record means nothing.
-    Schedule = 3,
+    Schedule,
     /// The source failed.
-    ReadFault = 4,
+    ReadFault,
     /// The sink failed.
-    WriteFault = 5,
+    WriteFault,
+    /// What a command asks of replicas failed. No command asks any yet.
+    FieldFault,
     /// The source holds more than 67,108,864 bytes, or another limit would be passed.
-    Limit = 7,
+    Limit,
+}
+
+impl Status {
+    /// The exit status of the program.
+    pub fn code(self) -> u8
+        ensures done { self ≡ Status.Done → result ≡ 0 }
+        ensures memory { self ≡ Status.Memory → result ≡ 1 }
+        ensures usage { self ≡ Status.Usage → result ≡ 2 }
+        ensures schedule { self ≡ Status.Schedule → result ≡ 3 }
+        ensures read_fault { self ≡ Status.ReadFault → result ≡ 4 }
+        ensures write_fault { self ≡ Status.WriteFault → result ≡ 5 }
+        ensures field_fault { self ≡ Status.FieldFault → result ≡ 6 }
+        ensures limit { self ≡ Status.Limit → result ≡ 7 }
+    {
+        match self {
+            Status::Done => 0,
+            Status::Memory => 1,
+            Status::Usage => 2,
+            Status::Schedule => 3,
+            Status::ReadFault => 4,
+            Status::WriteFault => 5,
+            Status::FieldFault => 6,
+            Status::Limit => 7,
+        }
+    }
 }
 
 fn status_of(ended: Ended<Stopped>) -> Status
@@ -47,6 +73,7 @@ fn status_of(ended: Ended<Stopped>) -> Status
         Ended::ReadFault => Status::ReadFault,
         Ended::WriteFault => Status::WriteFault,
         Ended::Limit => Status::Limit,
+        Ended::Failed => Status::FieldFault,
     }
 }
 
@@ -57,6 +84,7 @@ fn replay<S: Source, K: Sink>(alloc: Global, source: &mut S, sink: &mut K) -> St
         → ¬ Rose (S.faults source.old) (S.faults source.new) → ¬ Rose (K.faults sink.old) (K.faults sink.new)
         → result ≢ Status.Memory → result ≡ status_by (stop_of Command.Replay all)) }
     ensures never_usage { result ≢ Status.Usage }
+    ensures never_field { result ≢ Status.FieldFault }
     ensures read_cause { result ≡ Status.ReadFault → Rose (S.faults source.old) (S.faults source.new) }
     ensures write_cause { result ≡ Status.WriteFault → Rose (K.faults sink.old) (K.faults sink.new) }
     ensures read_later { S.faults source.old ≤ S.faults source.new }
@@ -75,6 +103,7 @@ fn table<S: Source, K: Sink>(alloc: Global, rows: u32, source: &mut S, sink: &mu
         → ¬ Rose (S.faults source.old) (S.faults source.new) → ¬ Rose (K.faults sink.old) (K.faults sink.new)
         → result ≢ Status.Memory → result ≡ status_by (stop_of (Command.Table rows) all)) }
     ensures never_usage { result ≢ Status.Usage }
+    ensures never_field { result ≢ Status.FieldFault }
     ensures read_cause { result ≡ Status.ReadFault → Rose (S.faults source.old) (S.faults source.new) }
     ensures write_cause { result ≡ Status.WriteFault → Rose (K.faults sink.old) (K.faults sink.new) }
     ensures read_later { S.faults source.old ≤ S.faults source.new }
@@ -119,16 +148,20 @@ pub fn run<S: Source, K: Sink>(
         ((limit < length all) × WroteLines command (take limit all) (K.taken sink.old) (K.taken sink.new))
         ⊎ StoppedBy command Stopped.AtLimit all (K.taken sink.old) (K.taken sink.new))) }
 
-    // or first bytes of the text.
+    // or first bytes of the lines of the records that stand whole in the bytes read, and of the closing lines where
+    // all was read, after a write fault and after want of memory.
     ensures write_fault { result ≡ Status.WriteFault → IfSome (command_of (map string_bytes words.now)) (λ command. IfSome (S.left source.old) (λ all.
         CutOff command all (S.left source.new) (K.taken sink.old) (K.taken sink.new))) }
     ensures memory { result ≡ Status.Memory → IfSome (command_of (map string_bytes words.now)) (λ command. IfSome (S.left source.old) (λ all.
-        AppendsPrefix (K.taken sink.old) (K.taken sink.new) (text_of command all))) }
+        CutOff command all (S.left source.new) (K.taken sink.old) (K.taken sink.new))) }
 
     // With the words of a command, no fault and not too many bytes, the records decide.
     ensures decided { IfSome (command_of (map string_bytes words.now)) (λ command. IfSome (S.left source.old) (λ all. length all ≤ limit
         → ¬ Rose (S.faults source.old) (S.faults source.new) → ¬ Rose (K.faults sink.old) (K.faults sink.new)
         → result ≢ Status.Memory → result ≡ status_by (stop_of command all))) }
+
+    // No command asks replicas yet.
+    ensures no_field { result ≢ Status.FieldFault }
 
     // A fault has its cause, and no count of faults falls.
     ensures read_cause { result ≡ Status.ReadFault → Rose (S.faults source.old) (S.faults source.new) }

@@ -1,15 +1,16 @@
 //! The form of the sources that are built.
 ghost use Rattle.std.specs.Prelude.{◌≡◌, IfOk, option_map};
-ghost use Rattle.record_stream.specs.Lines.{record_of};
+ghost use Rattle.record_cutting.specs.Lines.{record_of};
 ghost use Rattle.svr2_run.specs.Form.{ask_of, ask_parts, begin_of, event_of, tick_of};
 ghost use Rattle.svr2_run.specs.Numbers.{client_of};
 
 use crate::backup::read_backup;
 use crate::event::{Ask, Entry, Event};
 use crate::number::{is_number, read_number};
+use group_quorum::MAX_ID;
 use hex::FromHex;
 use std::alloc::Global;
-use svr_base::{ClientId, Memory, ReplicaId};
+use svr_base::{ClientId, MOST_ROWS, Memory, ReplicaId};
 
 /// `begin,0,LIMIT,R`.
 #[tactic(auto, unfolding(crate::specs::Form::begin_of))]
@@ -22,8 +23,8 @@ fn read_begin(fields: &[&[u8]]) -> Option<Event>
     if *word != b"begin".as_slice() || *margin != b"0".as_slice() {
         return None;
     }
-    let limit = read_number(limit, 1, 20_000)?;
-    let voter = read_number(voter, 1, 65_535)?;
+    let limit = read_number(limit, 1, u64::from(MOST_ROWS))?;
+    let voter = read_number(voter, 1, u64::from(MAX_ID))?;
     Some(Event::Begin {
         limit: limit as u32,
         voter: voter as u32,

@@ -8,20 +8,16 @@ use svr_base::{MemSink, MemSource, Memory};
 struct Row {
     words: &'static str,
     text: &'static str,
-    status: Status,
+    /// The exit status.
+    code: u8,
     written: &'static str,
 }
 
-fn table_row(
-    words: &'static str,
-    text: &'static str,
-    status: Status,
-    written: &'static str,
-) -> Row {
+fn table_row(words: &'static str, text: &'static str, code: u8, written: &'static str) -> Row {
     Row {
         words,
         text,
-        status,
+        code,
         written,
     }
 }
@@ -44,28 +40,28 @@ fn requests_are_answered_in_order(rt: HostRuntime) -> Result<(), Fail> {
         table_row(
             "table --rows=1",
             "000000000000000000000000000000Aa,1,12360a10aaaaaaaaaaaaaaaaaaaaaaaaaaaaaaaa122011111111111111111111111111111111111111111111111111111111111111111803\n000000000000000000000000000000bb,1,12360a10aaaaaaaaaaaaaaaaaaaaaaaaaaaaaaaa122011111111111111111111111111111111111111111111111111111111111111111803\n000000000000000000000000000000aA,1,2200\n000000000000000000000000000000aa,2,\n000000000000000000000000000000aa,2,12020A05\n000000000000000000000000000000aa,2,2A110a0faaaaaaaaaaaaaaaaaaaaaaaaaaaaaa\n",
-            Status::Done,
+            0,
             "1,done,0a020801\n2,full,1\n3,stale,1\n4,invalid,nothing,0\n5,malformed,2\n6,invalid,data,15\nrows,1\n",
         ),
         table_row(
             "table",
             "00000000000000000000000000000001,1\n",
-            Status::Schedule,
+            3,
             "stopped,schedule,1,fields,0\n",
         ),
         table_row(
             "table --rows 20000",
             "00000000000000000000000000000001,1,2200\n00000000000000000000000000000001,1111111111111111111111111,2200",
-            Status::Schedule,
+            3,
             "1,done,1a00\nstopped,schedule,2,range,2\n",
         ),
-        table_row("table --rows 05", "", Status::Usage, ""),
-        table_row("table --rows 20001", "", Status::Usage, ""),
-        table_row("table 5", "", Status::Usage, ""),
+        table_row("table --rows 05", "", 2, ""),
+        table_row("table --rows 20001", "", 2, ""),
+        table_row("table 5", "", 2, ""),
     ];
     for row in &rows {
         let (status, written) = outcome(rt.alloc(), row)?;
-        assert_eq!(rt; status, row.status);
+        assert_eq!(rt; status.code(), row.code);
         assert_eq!(rt; written.as_slice(), row.written.as_bytes());
     }
     Ok(())

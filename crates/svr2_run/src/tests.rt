@@ -2,8 +2,10 @@ ghost use Rattle.std.specs.Prelude.{◌<◌};
 
 use crate::{Status, run};
 use std::alloc::{AllocError, Global};
+use std::io;
+use std::io::{ErrorKind, Write};
 use std::test::Fail;
-use svr_base::{MemSink, MemSource, Memory};
+use svr_base::{MemSink, MemSource, Memory, StdSink};
 
 const FIRST: &str =
     "begin,0,100,1\ntick,1\nask,1,00000000000000000000000000000001,1,12360a10aaaaaaaaaaaaaaaaaaaaaaaaaaaaaaaa122011111111111111111111111111111111111111111111111111111111111111111803\n";
@@ -89,13 +91,17 @@ fn another_word_is_no_command(rt: HostRuntime) -> Result<(), Fail> {
     Ok(())
 }
 
+/// The lines of the first two records.
+const TWO_LINES: &str = "event,1,begin,0,100,1\nevent,2,tick,1\nlead,1,1\ncommit,1,1,1,noop\n";
+
 #[test]
-fn a_read_that_fails_leaves_the_whole_lines(rt: HostRuntime) -> Result<(), Fail> {
-    let mut trial = replay(FIRST, 1);
+fn a_read_that_fails_inside_the_third_line_leaves_two(rt: HostRuntime) -> Result<(), Fail> {
+    // Three reads give the first two lines, and the fourth begins the third.
+    let mut trial = replay(FIRST, 7);
     trial.failing_read = 5;
     let (status, written) = outcome(rt.alloc(), &trial)?;
-    assert_eq!(rt; status, Status::ReadFault);
-    assert_eq!(rt; written.as_slice(), b"".as_slice());
+    assert_eq!(rt; status.code(), 4);
+    assert_eq!(rt; written.as_slice(), TWO_LINES.as_bytes());
     Ok(())
 }
 
@@ -104,7 +110,76 @@ fn a_write_that_fails_ends_the_run(rt: HostRuntime) -> Result<(), Fail> {
     let mut trial = replay(FIRST, 65_536);
     trial.failing_write = 1;
     let (status, written) = outcome(rt.alloc(), &trial)?;
-    assert_eq!(rt; status, Status::WriteFault);
+    assert_eq!(rt; status.code(), 5);
     assert_eq!(rt; written.as_slice(), b"".as_slice());
+    Ok(())
+}
+
+#[test]
+fn the_lines_of_a_piece_are_written_at_once(rt: HostRuntime) -> Result<(), Fail> {
+    // The second write has the closing lines alone.
+    let mut trial = replay(FIRST, 65_536);
+    trial.failing_write = 2;
+    let (status, written) = outcome(rt.alloc(), &trial)?;
+    assert_eq!(rt; status.code(), 5);
+    let events = FIRST_TRACE.len() - "log,2\nrollbacks,within\nend,3,0,1\n".len();
+    assert_eq!(rt; written.as_slice(), &FIRST_TRACE.as_bytes()[..events]);
+    Ok(())
+}
+
+/// Takes at most five bytes a call, and fails at the call of this number.
+#[derive(Drop)]
+struct PartWriter {
+    taken: Vec<u8>,
+    calls: u64,
+    failing: u64,
+}
+
+impl Write for PartWriter {
+    fn write(&mut self, buf: &[u8]) -> io::Result<usize> {
+        self.calls = self.calls.saturating_add(1);
+        if self.calls == self.failing {
+            return Err(io::Error::from(ErrorKind::BrokenPipe));
+        }
+        let count = buf.len().min(5);
+        match self.taken.extend_from_slice(&buf[..count]) {
+            Ok(()) => Ok(count),
+            Err(AllocError) => Err(io::Error::from(ErrorKind::OutOfMemory)),
+        }
+    }
+
+    fn flush(&mut self) -> io::Result<()> {
+        Ok(())
+    }
+}
+
+/// What a replay of the first schedule writes to such a writer.
+fn parts(alloc: Global, failing: u64) -> Result<(Status, Vec<u8>), Memory> {
+    let mut words = Vec::new(alloc);
+    words.push(String::from_str(alloc, "replay")?)?;
+    let text = Vec::from_slice(alloc, FIRST.as_bytes())?;
+    let mut source = MemSource::new(text, 65_536, Vec::new(alloc));
+    let mut writer = PartWriter {
+        taken: Vec::new(alloc),
+        calls: 0,
+        failing,
+    };
+    let status = run(
+        alloc,
+        words.as_slice(),
+        &mut source,
+        &mut StdSink::new(&mut writer),
+    );
+    Ok((status, writer.taken))
+}
+
+#[test]
+fn a_sink_may_take_a_piece_in_parts(rt: HostRuntime) -> Result<(), Fail> {
+    let (status, written) = parts(rt.alloc(), 0)?;
+    assert_eq!(rt; status.code(), 0);
+    assert_eq!(rt; written.as_slice(), FIRST_TRACE.as_bytes());
+    let (status, written) = parts(rt.alloc(), 4)?;
+    assert_eq!(rt; status.code(), 5);
+    assert_eq!(rt; written.as_slice(), b"event,1,begin,0".as_slice());
     Ok(())
 }

@@ -1,7 +1,5 @@
 //! The one voter that is played.
-ghost use Rattle.std.specs.Prelude.{◌≡◌, ◌+◌, ◌<◌, ◌^◌, IfOk, OnOk, string_bytes};
-ghost use Rattle.svr_base.specs.Causes.{HasCauseAt};
-ghost use Rattle.record_stream.specs.Course.{Writes};
+ghost use Rattle.std.specs.Prelude.{◌≡◌, ◌+◌, ◌<◌, ◌^◌, ◌++◌, IfOk, OnErr, OnOk, string_bytes};
 ghost use Rattle.svr2_run.specs.Trace as spec;
 ghost use Rattle.svr2_run.specs.Worlds.{world_of};
 
@@ -12,9 +10,8 @@ use crate::lines::{
 };
 use crate::state::OneVoter;
 use client_msgs::write_response;
-use record_stream::Unwritten;
 use std::alloc::Global;
-use svr_base::{Memory, ReplicaId, Response, Sink, write_all};
+use svr_base::{Memory, ReplicaId, Response};
 
 impl OneVoter {
     /// No voter has begun.
@@ -30,33 +27,28 @@ impl OneVoter {
         }
     }
 
-    /// Plays an event, and writes its lines.
-    pub fn take<K: Sink>(&mut self, event: Event, sink: &mut K) -> Result<(), Unwritten>
+    /// Plays an event, and appends its lines.
+    pub fn take(&mut self, event: Event, lines: &mut Vec<u8>) -> Result<(), Memory>
         requires { self.old.events < 2 ^ 62 }
-        ensures writes { Writes (spec.lines_of (world_of self.old) event) (K.taken sink.old) (K.taken sink.new) result }
+        ensures lines { OnOk result (lines.new.items ≡ lines.old.items ++ spec.lines_of (world_of self.old) event) }
+        ensures kept { OnErr result (lines.new.items ≡ lines.old.items) }
         ensures after { OnOk result (world_of self.new ≡ spec.after (world_of self.old) event) }
-        ensures cause { HasCauseAt Unwritten.WriteFault (K.faults sink.old) (K.faults sink.new) result }
     {
         match event {
-            Event::Begin { limit, voter } => self.begin(limit, voter, sink),
-            Event::Tick { replica } => self.lead(replica, sink),
-            Event::Ask(ask) => self.answer(ask, sink),
+            Event::Begin { limit, voter } => self.begin(limit, voter, lines),
+            Event::Tick { replica } => self.lead(replica, lines),
+            Event::Ask(ask) => self.answer(ask, lines),
         }
     }
 
-    fn begin<K: Sink>(
-        &mut self,
-        limit: u32,
-        voter: ReplicaId,
-        sink: &mut K,
-    ) -> Result<(), Unwritten>
+    fn begin(&mut self, limit: u32, voter: ReplicaId, lines: &mut Vec<u8>) -> Result<(), Memory>
         requires { self.old.events < 2 ^ 62 }
-        ensures writes { Writes (spec.lines_of (world_of self.old) (Event.Begin limit voter)) (K.taken sink.old) (K.taken sink.new) result }
+        ensures lines { OnOk result (lines.new.items ≡ lines.old.items ++ spec.lines_of (world_of self.old) (Event.Begin limit voter)) }
+        ensures kept { OnErr result (lines.new.items ≡ lines.old.items) }
         ensures after { OnOk result (world_of self.new ≡ spec.after (world_of self.old) (Event.Begin limit voter)) }
-        ensures cause { HasCauseAt Unwritten.WriteFault (K.faults sink.old) (K.faults sink.new) result }
     {
-        let lines = begin_line(self.alloc, self.events + 1, limit, voter)?;
-        write_all(sink, lines.as_bytes())?;
+        let line = begin_line(self.alloc, self.events + 1, limit, voter)?;
+        lines.extend_from_slice(line.as_bytes())?;
         self.voter = Some(voter);
         self.events += 1;
         Ok(())
@@ -75,15 +67,15 @@ impl OneVoter {
     }
 
     /// The voter leads, and commits the first entry of its term.
-    fn lead<K: Sink>(&mut self, replica: ReplicaId, sink: &mut K) -> Result<(), Unwritten>
+    fn lead(&mut self, replica: ReplicaId, lines: &mut Vec<u8>) -> Result<(), Memory>
         requires { self.old.events < 2 ^ 62 }
-        ensures writes { Writes (spec.lines_of (world_of self.old) (Event.Tick replica)) (K.taken sink.old) (K.taken sink.new) result }
+        ensures lines { OnOk result (lines.new.items ≡ lines.old.items ++ spec.lines_of (world_of self.old) (Event.Tick replica)) }
+        ensures kept { OnErr result (lines.new.items ≡ lines.old.items) }
         ensures after { OnOk result (world_of self.new ≡ spec.after (world_of self.old) (Event.Tick replica)) }
-        ensures cause { HasCauseAt Unwritten.WriteFault (K.faults sink.old) (K.faults sink.new) result }
     {
-        let lines = self.lead_lines(replica)?;
+        let more = self.lead_lines(replica)?;
         self.path.push(Entry::Noop)?;
-        write_all(sink, lines.as_bytes())?;
+        lines.extend_from_slice(more.as_bytes())?;
         self.events += 1;
         Ok(())
     }
@@ -104,38 +96,38 @@ impl OneVoter {
     }
 
     /// The voter commits the client's request and answers it. No table is kept yet: a backup is always kept.
-    fn answer<K: Sink>(&mut self, ask: Ask, sink: &mut K) -> Result<(), Unwritten>
+    fn answer(&mut self, ask: Ask, lines: &mut Vec<u8>) -> Result<(), Memory>
         requires { self.old.events < 2 ^ 62 }
-        ensures writes { Writes (spec.lines_of (world_of self.old) (Event.Ask ask)) (K.taken sink.old) (K.taken sink.new) result }
+        ensures lines { OnOk result (lines.new.items ≡ lines.old.items ++ spec.lines_of (world_of self.old) (Event.Ask ask)) }
+        ensures kept { OnErr result (lines.new.items ≡ lines.old.items) }
         ensures after { OnOk result (world_of self.new ≡ spec.after (world_of self.old) (Event.Ask ask)) }
-        ensures cause { HasCauseAt Unwritten.WriteFault (K.faults sink.old) (K.faults sink.new) result }
     {
-        let lines = self.answer_lines(&ask)?;
+        let more = self.answer_lines(&ask)?;
         self.path.push(Entry::Ask(ask))?;
-        write_all(sink, lines.as_bytes())?;
+        lines.extend_from_slice(more.as_bytes())?;
         self.events += 1;
         self.answers += 1;
         Ok(())
     }
 
-    /// Writes that the next record is outside the form.
-    pub fn stop<K: Sink>(&self, sink: &mut K) -> Result<(), Unwritten>
+    /// Says that the next record is outside the form.
+    pub fn stop(&self, lines: &mut Vec<u8>) -> Result<(), Memory>
         requires { self.now.events < 2 ^ 62 }
-        ensures writes { Writes (spec.stopped_line (self.now.events + 1)) (K.taken sink.old) (K.taken sink.new) result }
-        ensures cause { HasCauseAt Unwritten.WriteFault (K.faults sink.old) (K.faults sink.new) result }
+        ensures lines { OnOk result (lines.new.items ≡ lines.old.items ++ spec.stopped_line (self.now.events + 1)) }
+        ensures kept { OnErr result (lines.new.items ≡ lines.old.items) }
     {
         let line = stopped_line(self.alloc, self.events + 1)?;
-        write_all(sink, line.as_bytes())?;
+        lines.extend_from_slice(line.as_bytes())?;
         Ok(())
     }
 
-    /// Writes the closing lines.
-    pub fn end<K: Sink>(&self, sink: &mut K) -> Result<(), Unwritten>
-        ensures writes { Writes (spec.closing_lines (world_of self.now)) (K.taken sink.old) (K.taken sink.new) result }
-        ensures cause { HasCauseAt Unwritten.WriteFault (K.faults sink.old) (K.faults sink.new) result }
+    /// Appends the closing lines.
+    pub fn end(&self, lines: &mut Vec<u8>) -> Result<(), Memory>
+        ensures lines { OnOk result (lines.new.items ≡ lines.old.items ++ spec.closing_lines (world_of self.now)) }
+        ensures kept { OnErr result (lines.new.items ≡ lines.old.items) }
     {
-        let lines = closing_lines(self.alloc, self.path.len(), self.events, self.answers)?;
-        write_all(sink, lines.as_bytes())?;
+        let more = closing_lines(self.alloc, self.path.len(), self.events, self.answers)?;
+        lines.extend_from_slice(more.as_bytes())?;
         Ok(())
     }
 }

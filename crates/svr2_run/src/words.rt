@@ -1,14 +1,13 @@
 //! The words of the command line.
 ghost use Rattle.std.specs.Prelude.{◌≡◌, ◌≢◌, ◌≤◌, None, IfOk, OnOk, IfSome, map, option_map, string_bytes};
-ghost use Rattle.record_table.specs.declared.store.TheConstants.{MOST_ROWS};
+ghost use Rattle.values.specs.declared.limits.TheConstants.{MOST_ROWS};
 ghost use Rattle.svr2_run.specs.Words as spec;
 
 use clap::Arg;
 use clap::error::ErrorKind;
-use record_table::MOST_ROWS;
 use schedule_text::number_of;
 use std::alloc::Global;
-use svr_base::Memory;
+use svr_base::{MOST_ROWS, Memory};
 
 /// How many rows the table of `table` may hold where its words do not say.
 const USUAL_ROWS: u32 = 10_000;

@@ -1,9 +1,19 @@
+use Rattle.std.proofs.Common.{ap}
+use Rattle.svr2_run.specs.Trace.{course_from}
+use Rattle.svr2_run.specs.Worlds.{course_of}
 use Rattle.svr2_run.specs.declared.words.Command.TheVariants.{Replay}
-use Rattle.svr2_run.proofs.Runs.{told_decided, told_runs}
+use Rattle.svr2_run.proofs.Runs.{never_field, one_ends, told_decided, told_runs}
 use Rattle.svr2_run.proofs.command.replay.Goals as goal
 
 pub returns-clause-runs : goal.returns-clause-runs
-returns-clause-runs g c = told_runs Replay _ _ _ _ c.play_source.result c.status_of.result c.status_of.ensures (rw c.new-voter.ensures at c.play_source.ensures.ends)
+returns-clause-runs g c =
+    told_runs Replay _ _ _ _ c.play_source.result c.status_of.result c.status_of.ensures c.play_source.ensures.own_cause
+    (one_ends course_of _ c.play_source.new.player Replay _ _ _ _ c.play_source.result (ap course_from c.new-voter.ensures) c.play_source.ensures.ends)
 
 pub returns-clause-decided : goal.returns-clause-decided
-returns-clause-decided g c = told_decided Replay _ c.play_source.result c.status_of.result _ _ c.status_of.ensures (rw c.new-voter.ensures at c.play_source.ensures.decided)
+returns-clause-decided g c =
+    told_decided Replay _ _ _ _ c.play_source.result c.status_of.result _ _ c.status_of.ensures c.play_source.ensures.read_cause c.play_source.ensures.write_cause c.play_source.ensures.own_cause
+    (one_ends course_of _ c.play_source.new.player Replay _ _ _ _ c.play_source.result (ap course_from c.new-voter.ensures) c.play_source.ensures.ends)
+
+pub returns-clause-never_field : goal.returns-clause-never_field
+returns-clause-never_field g c = never_field c.play_source.result c.status_of.result c.status_of.ensures c.play_source.ensures.own_cause

@@ -1,6 +1,5 @@
-use Rattle.svr2_run.specs.Trace.{text_from}
+use Rattle.svr2_run.proofs.Playing.{closes_lines}
 use Rattle.svr2_run.proofs.player.OneVoterPlayer.close.Goals as goal
 
-pub returns-clause-writes : goal.returns-clause-writes
-unfolding text_from
-returns-clause-writes g c = c.end.ensures.writes
+pub returns-clause-adds : goal.returns-clause-adds
+returns-clause-adds c = closes_lines c.args.self.now _ _ c.end.result c.end.ensures.lines c.end.ensures.kept
