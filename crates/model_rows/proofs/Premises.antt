@@ -4,11 +4,11 @@ use Rattle.std.specs.Prelude.{flat_map, bytes_eq, Option, Some, None, IfSome}
 use Rattle.std.specs.List.{list_all}
 use Rattle.std.proofs.lemmas.Bool.{and_parts, eqb-true, leb-true}
 use Rattle.std.proofs.lemmas.Slice.Eq.{bytes_eq-Decides}
-use Rattle.svr_base.specs.declared.entry.Hash.{Hash}
-use Rattle.svr_base.specs.declared.entry.Body.{Body}
-use Rattle.svr_base.specs.declared.entry.Body.TheVariants.{Noop, Ask, Members}
-use Rattle.svr_base.specs.declared.entry.LogEntry.{LogEntry}
-use Rattle.svr_base.specs.declared.ids.ClientId.{ClientId}
+use Rattle.values.specs.declared.entry.Hash.{Hash}
+use Rattle.values.specs.declared.entry.Body.{Body}
+use Rattle.values.specs.declared.entry.Body.TheVariants.{Noop, Ask, Members}
+use Rattle.values.specs.declared.entry.LogEntry.{LogEntry}
+use Rattle.values.specs.declared.ids.ClientId.{ClientId}
 use Rattle.replica_model.specs.Path.{Path, Link, chain, chain_from, first_hash, same_hash}
 use Rattle.replica_model.specs.Configs.{is_members}
 use Rattle.group_model.specs.Group.{Setup, is_client}

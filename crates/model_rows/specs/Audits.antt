@@ -1,11 +1,11 @@
 -- Traces by what their lines say.
 use Rattle.std.specs.Prelude.{ℕ, true, List, [], ◌∷◌, ◌++◌, map, replicate, Some}
-use Rattle.svr_base.specs.declared.entry.Body.TheVariants.{Noop}
-use Rattle.svr_base.specs.declared.entry.LogEntry.{LogEntry}
-use Rattle.svr_base.specs.declared.event.Event.TheVariants as event
-use Rattle.svr_base.specs.declared.ids.ClientId.{ClientId}
-use Rattle.svr_base.specs.declared.message.Reply.TheVariants.{Applied}
-use Rattle.svr_base.specs.declared.message.Response.TheVariants.{Backup}
+use Rattle.values.specs.declared.entry.Body.TheVariants.{Noop}
+use Rattle.values.specs.declared.entry.LogEntry.{LogEntry}
+use Rattle.values.specs.declared.event.Event.TheVariants as event
+use Rattle.values.specs.declared.ids.ClientId.{ClientId}
+use Rattle.values.specs.declared.message.Reply.TheVariants.{Applied}
+use Rattle.values.specs.declared.message.Response.TheVariants.{Backup}
 use Rattle.trace_model.specs.Audit.{Verdict, verdict, new_audit}
 use Rattle.trace_model.specs.TraceLines.{TraceLine, EventLine, Commit, Outcome, LogEnd, Rollbacks, End, Other}
 use Rattle.model_rows.specs.Broken.{entry}

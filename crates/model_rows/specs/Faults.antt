@@ -1,9 +1,9 @@
 -- What a record reads as, and its fault.
 use Rattle.std.specs.Prelude.{◌≡◌, ℕ, Bool, true, false, List, [], ◌∷◌, codes, slice_index_or, Option, Some, None, Result, Ok, Err}
 use Prim.Native.String.{String}
-use Rattle.svr_base.specs.declared.event.Cause.{Cause}
-use Rattle.svr_base.specs.declared.event.Event.{Event}
-use Rattle.schedule_model.specs.Cutting.{Fields, records_of}
+use Rattle.values.specs.declared.event.Cause.{Cause}
+use Rattle.values.specs.declared.event.Event.{Event}
+use Rattle.record_cutting.specs.Lines.{Record, records_of}
 use Rattle.schedule_model.specs.Reading.{RecordFault}
 use Rattle.schedule_model.specs.Records.{event_of}
 
@@ -28,5 +28,5 @@ abbrev pub IsRemark : String → Type 0
 IsRemark text = read false false (codes text) ≡ Ok None
 
 -- a text has these records
-abbrev pub Holds : String → List Fields → Type 0
+abbrev pub Holds : String → List Record → Type 0
 Holds text records = records_of (codes text) ≡ records

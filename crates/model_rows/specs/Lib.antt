@@ -2,8 +2,11 @@ pub mod Answered
 pub mod Audits
 pub mod Broken
 pub mod Faults
+pub mod Grammar
 pub mod Plays
 pub mod Rows
 pub mod Shown
+pub mod StoredTwice
 pub mod Toy
 pub mod ToySession
+pub mod Voted

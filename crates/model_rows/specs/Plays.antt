@@ -3,7 +3,7 @@ use Rattle.std.specs.Prelude.{◌≡◌, List}
 use Prim.Native.String.{String}
 use Rattle.trace_model.specs.Schedules.{trace_of}
 use Rattle.trace_model.specs.Driven.{driven_trace}
-use Rattle.trace_model.specs.TableText.{table_text}
+use Rattle.table_model.specs.TableText.{table_text}
 use Rattle.model_rows.specs.Shown.{bytes_of, shown}
 use Rattle.model_rows.specs.Toy.{toy_link}
 

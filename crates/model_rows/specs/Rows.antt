@@ -15,6 +15,7 @@ pub mod NotLeader
 pub mod OldVotesHaltTwo
 pub mod OneClient
 pub mod OneReplicaTooMany
+pub mod OneStateTooMany
 pub mod OneVoterOneBackup
 pub mod OtherSpellingSameCommit
 pub mod Refusals

@@ -1,6 +1,5 @@
 -- Texts as lists of lines that can be read, both ways.
-use Rattle.std.specs.Prelude.{ℕ, zero, suc, ◌-◌, List, [], ◌∷◌, ◌++◌, codes, map}
-use Rattle.schedule_model.specs.Cutting.{lines_with, line_if_any}
+use Rattle.std.specs.Prelude.{ℕ, zero, suc, ◌-◌, ◌==◌, if◌then◌else◌, List, [], ◌∷◌, ◌++◌, codes}
 use Prim.Native.Char.{Char, nul}
 use Prim.Native.String.{String}
 use Prim.Native.String.{[] as no_text, ◌∷◌ as ◌then◌}
@@ -24,6 +23,16 @@ abbrev pub text_of : List ℕ → String
 text_of [] = no_text
 text_of (b ∷ bs) = elim (b - 32) [ zero ↦ text_of bs | suc k ↦ character_in printable k then text_of bs ]
 
--- bytes as lines that can be read
+-- a character at the front of the first line
+abbrev pub in_front : Char → List String → List String
+in_front c [] = (c then no_text) ∷ []
+in_front c (s ∷ ss) = (c then s) ∷ ss
+
+-- a byte at the front of lines: a line feed begins one, and no other control character or space is shown
+abbrev pub with_byte : ℕ → List String → List String
+with_byte b lines = if b == 10 then no_text ∷ lines else elim (b - 32) [ zero ↦ lines | suc k ↦ in_front (character_in printable k) lines ]
+
+-- bytes as lines that can be read, from their end on, so that each byte is looked at once
 abbrev pub shown : List ℕ → List String
-shown bytes = map text_of (lines_with line_if_any [] bytes)
+shown [] = []
+shown (b ∷ bs) = with_byte b (shown bs)

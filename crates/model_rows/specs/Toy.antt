@@ -1,8 +1,8 @@
 -- A link function that does not collide on the rows, and computes.
 use Rattle.std.specs.Prelude.{ℕ, ◌+◌, ◌*◌, ◌%◌, ◌^◌, List, [], ◌∷◌, ◌++◌, fold, replicate}
 use Rattle.std.specs.Int.{w64, to_be_bytes}
-use Rattle.svr_base.specs.declared.entry.Body.{Body}
-use Rattle.svr_base.specs.declared.entry.Body.TheVariants.{Noop, Ask, Members}
+use Rattle.values.specs.declared.entry.Body.{Body}
+use Rattle.values.specs.declared.entry.Body.TheVariants.{Noop, Ask, Members}
 use Rattle.replica_model.specs.Path.{Link}
 
 -- a number of a list of numbers

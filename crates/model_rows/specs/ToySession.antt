@@ -2,8 +2,8 @@
 use Rattle.std.specs.Prelude.{◌≡◌, ℕ, ◌==◌, if◌then◌else◌, slice_index, List, [], ◌∷◌, ◌++◌, map, drop, length, replicate, flat_map, Result, Ok, Err}
 use Rattle.std.specs.Int.{w32, to_be_bytes}
 use Prim.Native.String.{String}
-use Rattle.svr_base.specs.declared.peer.PeerMsg.{PeerMsg}
-use Rattle.svr_base.specs.declared.peer.PeerMsg.TheVariants.{AskVote}
+use Rattle.values.specs.declared.peer.PeerMsg.{PeerMsg}
+use Rattle.values.specs.declared.peer.PeerMsg.TheVariants.{AskVote}
 use Rattle.replica_model.specs.Replica.{nothing_named}
 use Rattle.schedule_model.specs.Lines.{lines_text, batch_lines}
 use Rattle.group_model.specs.Enclave.{Begin, Tick, Save, Roll}

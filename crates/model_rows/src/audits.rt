@@ -1,12 +1,18 @@
 //! What an auditor makes of traces.
 
 ghost use Rattle.std.specs.Prelude.{◌≡◌, true, false, [], ◌∷◌, ◌++◌, codes, None, Some};
-ghost use Rattle.svr_base.specs.declared.event.Event.TheVariants as event;
-ghost use Rattle.svr_base.specs.declared.message.Reply.TheVariants.{Applied};
-ghost use Rattle.svr_base.specs.declared.message.Response.TheVariants.{Backup};
-ghost use Rattle.trace_model.specs.Audit.{Accepts, Refuses, WrongGrammar, WrongCommit, WrongOutcome, WrongLog, WrongRollbacks, WrongEnd};
+ghost use Rattle.values.specs.declared.event.Event.TheVariants as event;
+ghost use Rattle.values.specs.declared.message.Reply.TheVariants.{Applied};
+ghost use Rattle.values.specs.declared.message.Response.TheVariants.{Backup};
+ghost use Rattle.trace_model.specs.Audit.{Audits, Accepts, Refuses, WrongGrammar, WrongCommit, WrongOutcome, WrongLog, WrongRollbacks, WrongEnd};
 ghost use Rattle.trace_model.specs.TraceLines.{EventLine, Commit, Outcome, Members, Refused, LogEnd, Rollbacks, End, Stopped, Says};
+ghost use Rattle.model_rows.specs.Shown.{bytes_of};
+ghost use Rattle.model_rows.specs.Rows.OneVoterOneBackup as row;
+ghost use Rattle.model_rows.specs.Grammar.{with_wide_status, with_odd_request};
 ghost use Rattle.model_rows.specs.Audits.{judged, begins, backed_up, ends, noop_of, client};
+
+use client_msgs::responses_are_read_again;
+use trace_model::fields_are_plain;
 
 /// A trace that holds together is accepted, also one that was stopped.
 pub fn accepted()
@@ -29,6 +35,18 @@ pub fn refused()
     ensures second_begin { judged (begins ++ (EventLine 4 (event.Begin 0 100 (1 ∷ [])) ∷ [])) ≡ Refuses 7 WrongGrammar }
     ensures no_begin { judged (Members 0 (1 ∷ []) ∷ []) ≡ Refuses 1 WrongGrammar }
 {}
+
+/// A trace is accepted by its bytes. With a response or a request whose values are out of their ranges it is no grammar:
+/// the bytes after `done` are those of a status of 2^32 + 1, and a digit of a request is a NUL, which would be printed of a
+/// "byte" of 300. It only names the laws below.
+pub fn grammar()
+    ensures whole { Audits (bytes_of row.trace) (Accepts 10) }
+    ensures wide_status { Audits with_wide_status (Refuses 7 WrongGrammar) }
+    ensures odd_request { Audits with_odd_request (Refuses 6 WrongGrammar) }
+{
+    fields_are_plain();
+    responses_are_read_again();
+}
 
 /// What some lines say.
 pub fn lines()

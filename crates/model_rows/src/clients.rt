@@ -12,11 +12,17 @@ ghost use Rattle.model_rows.specs.Rows.DriverGivesUp;
 ghost use Rattle.model_rows.specs.Rows.WireFaults;
 ghost use Rattle.model_rows.specs.Rows.GuessesRunOut;
 ghost use Rattle.model_rows.specs.Shown.{shown};
+ghost use Rattle.model_rows.specs.StoredTwice.{stored_twice, OwnPlaces};
 ghost use Rattle.model_rows.specs.Toy.{toy_link};
 
 /// A client stores a secret, and recovers with a wrong PIN.
 pub fn one_client()
     ensures { Plays OneClient.schedule OneClient.trace }
+{}
+
+/// A client stores the same secret twice, and what the second report says is said of the second want's own places.
+pub fn the_second_store_is_its_own()
+    ensures { OwnPlaces stored_twice stored_twice.hearings }
 {}
 
 /// A follower answers with the leader that it knows.

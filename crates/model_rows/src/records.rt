@@ -1,9 +1,9 @@
 //! What records read as: each fault, at its field, in its order.
 
 ghost use Rattle.std.specs.Prelude.{true, false, [], ◌∷◌, ◌++◌, codes, replicate};
-ghost use Rattle.svr_base.specs.declared.event.Cause.TheVariants.{Word, Fields, NoBegin, SecondBegin, Number, Range, Hex, TooMany, Double, TooFew};
+ghost use Rattle.values.specs.declared.event.Cause.TheVariants.{Word, Fields, NoBegin, SecondBegin, Number, Range, Hex, TooMany, Double, TooFew};
 ghost use Rattle.model_rows.specs.Faults.{Faulty, Says, SaysMarked, IsRemark, Holds};
-ghost use Rattle.svr_base.specs.declared.event.Event.TheVariants as event;
+ghost use Rattle.values.specs.declared.event.Event.TheVariants as event;
 
 /// An unknown first field, and an unknown third field of a want.
 pub fn words()

@@ -1,21 +1,41 @@
 //! Sessions of one enclave over frames, and a group over contents.
 
-ghost use Rattle.std.specs.Prelude.{◌≡◌, [], ◌∷◌, ◌++◌, length, replicate};
+ghost use Rattle.std.specs.Prelude.{◌≡◌, [], ◌∷◌, ◌++◌, length, replicate, take, Some, None};
+ghost use Rattle.schedule_model.specs.Quantities.{Replicas, States};
+ghost use Rattle.schedule_model.specs.Written.{AtLimit, AtFrame, AtField};
 ghost use Rattle.trace_model.specs.Session.{Done, Bad, Cut, Length, Tag, Faulty, NotBegun, BegunAgain};
 ghost use Rattle.model_rows.specs.Answered.{AnsweredBy, batches_of};
 ghost use Rattle.model_rows.specs.Rows.LearnerTakesATable;
+ghost use Rattle.model_rows.specs.Rows.OneReplicaTooMany;
+ghost use Rattle.model_rows.specs.Rows.OneStateTooMany;
 ghost use Rattle.model_rows.specs.Rows.OneVoterOneBackup;
 ghost use Rattle.model_rows.specs.ToySession.{frames, framed, answers, Ends, TaggedEnds};
 
 /// The trace is the one from the contents that its own enclaves give, links of a start included.
 pub fn own_contents()
-    ensures { AnsweredBy LearnerTakesATable.schedule (length (batches_of LearnerTakesATable.schedule)) [] LearnerTakesATable.trace }
+    ensures { AnsweredBy LearnerTakesATable.schedule (length (batches_of LearnerTakesATable.schedule)) [] LearnerTakesATable.trace None [] }
 {}
 
-/// A content that is no batch ends the text, and so does none.
+/// A content that is no batch ends the text, tells its offset, and is the last that is taken. So does none, where one is asked for.
 pub fn other_contents()
-    ensures broken { AnsweredBy OneVoterOneBackup.schedule 1 ((99 ∷ []) ∷ []) ("event,1,begin,0,100,1" ∷ "event,2,tick,1" ∷ "lead,1,1" ∷ "commit,1,1,1,noop" ∷ "stopped,frame" ∷ []) }
-    ensures missing { AnsweredBy OneVoterOneBackup.schedule 1 [] ("event,1,begin,0,100,1" ∷ "event,2,tick,1" ∷ "lead,1,1" ∷ "commit,1,1,1,noop" ∷ []) }
+    ensures broken { AnsweredBy OneVoterOneBackup.schedule 1 ((99 ∷ []) ∷ []) ("event,1,begin,0,100,1" ∷ "event,2,tick,1" ∷ "lead,1,1" ∷ "commit,1,1,1,noop" ∷ "stopped,frame" ∷ []) (Some (AtFrame 99)) [] }
+    ensures later { AnsweredBy OneVoterOneBackup.schedule 1 ((99 ∷ []) ∷ (1 ∷ []) ∷ []) ("event,1,begin,0,100,1" ∷ "event,2,tick,1" ∷ "lead,1,1" ∷ "commit,1,1,1,noop" ∷ "stopped,frame" ∷ []) (Some (AtFrame 99)) ((1 ∷ []) ∷ []) }
+    ensures missing { AnsweredBy OneVoterOneBackup.schedule 1 [] ("event,1,begin,0,100,1" ∷ "event,2,tick,1" ∷ "lead,1,1" ∷ "commit,1,1,1,noop" ∷ []) (Some AtField) [] }
+    ensures one_too_many { AnsweredBy OneVoterOneBackup.schedule (length (batches_of OneVoterOneBackup.schedule)) ((7 ∷ []) ∷ []) OneVoterOneBackup.trace None ((7 ∷ []) ∷ []) }
+{}
+
+/// The content whose batch passes a limit is one of those that are given.
+pub fn one_state_too_many()
+    ensures given { length (batches_of OneStateTooMany.schedule) ≡ 65 }
+    ensures taken { AnsweredBy OneStateTooMany.schedule 65 [] OneStateTooMany.trace (Some (AtLimit States)) [] }
+    ensures fewer { AnsweredBy OneStateTooMany.schedule 64 [] (take 129 OneStateTooMany.trace) (Some AtField) [] }
+{}
+
+/// Where an event would pass a limit before it is played, nothing is given for it.
+pub fn no_links_for_one_replica_too_many()
+    ensures given { length (batches_of OneReplicaTooMany.schedule) ≡ 2016 }
+    ensures taken { AnsweredBy OneReplicaTooMany.schedule 2016 [] OneReplicaTooMany.trace (Some (AtLimit Replicas)) [] }
+    ensures one_too_many { AnsweredBy OneReplicaTooMany.schedule 2016 ((0 ∷ []) ∷ []) OneReplicaTooMany.trace (Some (AtLimit Replicas)) ((0 ∷ []) ∷ []) }
 {}
 
 /// Each frame after the first is answered by the batch of its step. A roll puts the saved state back.

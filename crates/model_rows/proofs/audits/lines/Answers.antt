@@ -1,8 +1,8 @@
 use Rattle.std.proofs.Common.{false, refl}
-use Rattle.svr_base.specs.declared.event.Event.TheVariants as event
-use Rattle.svr_base.specs.declared.message.Answer.TheVariants as answer
-use Rattle.svr_base.specs.declared.message.Reply.TheVariants.{Applied}
-use Rattle.svr_base.specs.declared.message.Response.TheVariants.{Backup}
+use Rattle.values.specs.declared.event.Event.TheVariants as event
+use Rattle.values.specs.declared.message.Answer.TheVariants as answer
+use Rattle.values.specs.declared.message.Reply.TheVariants.{Applied}
+use Rattle.values.specs.declared.message.Response.TheVariants.{Backup}
 use Rattle.trace_model.specs.TraceLines.{EventForm, CommitForm, AnswerForm, RollbacksForm}
 use Rattle.model_rows.specs.Audits.{client, noop_of}
 use Rattle.model_rows.proofs.Computing.{computing}

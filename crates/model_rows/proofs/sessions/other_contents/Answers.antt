@@ -4,4 +4,9 @@ use Rattle.model_rows.proofs.sessions.other_contents.Goals as goal
 
 pub returns : goal.returns
 unfolding computing
-returns c = record { broken = refl; missing = refl }
+returns c = record {
+  broken = record { trace_is = refl; stop_is = refl; left_are = refl };
+  later = record { trace_is = refl; stop_is = refl; left_are = refl };
+  missing = record { trace_is = refl; stop_is = refl; left_are = refl };
+  one_too_many = record { trace_is = refl; stop_is = refl; left_are = refl };
+}

@@ -4,4 +4,4 @@ use Rattle.model_rows.proofs.sessions.own_contents.Goals as goal
 
 pub returns : goal.returns
 unfolding computing
-returns c = refl
+returns c = record { trace_is = refl; stop_is = refl; left_are = refl }

@@ -1,0 +1,7 @@
+use Rattle.std.proofs.Common.{refl}
+use Rattle.model_rows.proofs.Computing.{computing}
+use Rattle.model_rows.proofs.sessions.one_state_too_many.Goals as goal
+
+pub returns : goal.returns
+unfolding computing
+returns c = record { given = refl; taken = record { trace_is = refl; stop_is = refl; left_are = refl }; fewer = record { trace_is = refl; stop_is = refl; left_are = refl } }
