@@ -1,4 +1,14 @@
 mod Worked
+mod Around
+mod Balanced
+mod Nodes
+mod Turned
+mod RowIn
+mod WrittenIn
+mod Walked
+mod Stored
+mod RowBelow
+mod WayTo
 mod Clients
 mod Rows
 mod Turns

@@ -85,11 +85,11 @@ put_row-gap (r ∷ rows) row (suc at) gap =
     ∙ ap (λ rs. r ∷ rs) (put_row-gap rows row at (IsGap-tail r rows row.client at gap))
 
 -- putting a row keeps the order
-abbrev EachAfter : ClientId → List Row → Type 0
+abbrev pub EachAfter : ClientId → List Row → Type 0
 EachAfter a [] = Unit {0}
 EachAfter a (r ∷ rows) = (client_cmp a r.client ≡ Less) × EachAfter a rows
 
-abbrev Ascends : List Row → Type 0
+abbrev pub Ascends : List Row → Type 0
 Ascends [] = Unit {0}
 Ascends (r ∷ rows) = EachAfter r.client rows × Ascends rows
 
@@ -97,7 +97,7 @@ each_after : (a : ClientId) (rows : List Row) → ((j : ℕ) (d : Row) → j < l
 each_after a [] h = tt
 each_after a (r ∷ rows) h = (h 0 r (omega arith), each_after a rows (λ j d l. h (suc j) d (omega arith)))
 
-ascends : (rows : List Row) → IsRising rows → Ascends rows
+pub ascends : (rows : List Row) → IsRising rows → Ascends rows
 ascends [] rising = tt
 ascends (r ∷ rows) rising =
     (each_after r.client rows (λ j d l. rising 0 (suc j) d (omega arith) (omega arith)), ascends rows (IsRising-tail r rows rising))
@@ -107,13 +107,13 @@ after_at a [] j d h l = absurd (omega arith)
 after_at a (r ∷ rows) zero d h l = h.0
 after_at a (r ∷ rows) (suc j) d h l = after_at a rows j d h.1 (omega arith)
 
-rises : (rows : List Row) → Ascends rows → IsRising rows
+pub rises : (rows : List Row) → Ascends rows → IsRising rows
 rises [] h i j d low high = absurd (omega arith)
 rises (r ∷ rows) h i zero d low high = absurd (omega arith)
 rises (r ∷ rows) h zero (suc j) d low high = after_at r.client rows j d h.0 (omega arith)
 rises (r ∷ rows) h (suc i) (suc j) d low high = rises rows h.1 i j d (omega arith) (omega arith)
 
-after_further : (a b : ClientId) (rows : List Row) → client_cmp a b ≡ Less → EachAfter b rows → EachAfter a rows
+pub after_further : (a b : ClientId) (rows : List Row) → client_cmp a b ≡ Less → EachAfter b rows → EachAfter a rows
 after_further a b [] e h = tt
 after_further a b (r ∷ rows) e h = (client_total.trans a b r.client e h.0, after_further a b rows e h.1)
 

@@ -31,10 +31,10 @@ rows_in-at order slots at d e h = get_or-map (λ slot. slice_index_or slots slot
 
 -- ---- clients by their numbers
 
-below_by_number : (a b : ClientId) (m n : ℕ) → IsNumberOf a m → IsNumberOf b n → m < n → client_cmp a b ≡ Less
+pub below_by_number : (a b : ClientId) (m n : ℕ) → IsNumberOf a m → IsNumberOf b n → m < n → client_cmp a b ≡ Less
 below_by_number a b m n is_a is_b less = client_cmp-numbers a b m n is_a is_b ∙ sym (nat_cmp_is m n Less less)
 
-same_by_number : (a b : ClientId) (n : ℕ) → IsNumberOf a n → IsNumberOf b n → a ≡ b
+pub same_by_number : (a b : ClientId) (n : ℕ) → IsNumberOf a n → IsNumberOf b n → a ≡ b
 same_by_number a b n is_a is_b = client_cmp-same a b (client_cmp-numbers a b n n is_a is_b ∙ sym (nat_cmp_is n n Equal refl))
 
 -- ---- a number between the numbers of the list

@@ -6,5 +6,7 @@ pub mod Valid
 pub mod Laws
 pub mod Changes
 pub mod Slots
+pub mod Trees
+pub mod Ways
 pub mod Pages
 pub mod Numbered

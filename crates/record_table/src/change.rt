@@ -1,5 +1,6 @@
 //! What a request that acts makes of a client's row.
-ghost use Rattle.std.specs.Prelude.{◌≡◌};
+ghost use Rattle.std.specs.Prelude.{◌≡◌, Option};
+ghost use Rattle.values.specs.declared.row.Kept.{Kept as KeptRecord};
 ghost use Rattle.record_table.specs.Changes.{kept_after};
 
 use values::{Kept, Row};
@@ -17,6 +18,16 @@ pub enum Change {
     Expose,
     /// So many tries are left.
     Leave(u32),
+}
+
+/// The change that makes this the record, or leaves none.
+pub fn keeping(kept: Option<Kept>) -> Change
+    ensures { (before : Option KeptRecord) → kept_after result before ≡ kept }
+{
+    match kept {
+        Some(kept) => Change::Keep(kept),
+        None => Change::Forget,
+    }
 }
 
 /// Changes the row in its place: its last number and its record. No bytes are copied.

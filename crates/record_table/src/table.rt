@@ -2,8 +2,8 @@
 
 use crate::change::Change;
 use crate::rules::outcome;
-use crate::sorted::SortedRows;
 use crate::store::RowStore;
+use crate::tree::TreeRows;
 use std::alloc::Global;
 use std::marker::Model;
 use values::{ClientId, Memory, Reply, Request, Row, Rows, TryCopy};
@@ -18,7 +18,7 @@ pub struct TableOver<T: RowStore> {
 }
 
 /// The record table.
-pub type Table = TableOver<SortedRows>;
+pub type Table = TableOver<TreeRows>;
 
 impl<T: RowStore> Model for TableOver<T> {
     ghost use Rattle.record_table.specs.Table.{RecordTable};

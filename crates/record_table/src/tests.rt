@@ -7,7 +7,8 @@ use crate::change::{Change, change_row};
 use crate::sorted::SortedRows;
 use crate::status::{OK, PIN_MISMATCH};
 use crate::store::RowStore;
-use crate::table::Table;
+use crate::table::{Table, TableOver};
+use crate::tree::TreeRows;
 use std::alloc::Global;
 use std::test::Fail;
 use values::{Bytes, ClientId, Hash, Kept, Memory, Reply, Request, Response, Row};
@@ -118,7 +119,7 @@ fn rows_are_copied_in_the_order_of_clients(rt: HostRuntime) -> Result<(), Fail> 
 #[test]
 fn a_table_takes_more_rows_than_a_page(rt: HostRuntime) -> Result<(), Fail> {
     let alloc = rt.alloc();
-    let mut table = Table::new(alloc, 1000);
+    let mut table: TableOver<SortedRows> = TableOver::new(alloc, 1000);
     for n in 0..600u16 {
         // every second client comes before all that are there
         let client = if n % 2 == 0 { 1000 + n } else { 1000 - n };
@@ -152,5 +153,72 @@ fn a_row_is_changed_in_its_place(rt: HostRuntime) -> Result<(), Fail> {
     change_row(&mut changed, 7, Change::Forget);
     assert_eq!(rt; changed.last, 7);
     assert!(rt; changed.kept.is_none());
+    Ok(())
+}
+
+/// Puts a row where there is room for one more.
+fn put(rows: &mut TreeRows, row: Row) -> Result<(), Memory> {
+    if rows.count() < 20_000 {
+        rows.put(row)?;
+    }
+    Ok(())
+}
+
+/// Adds rows of clients 1 to n, in rising order.
+fn fill(rows: &mut TreeRows, alloc: Global, n: u16) -> Result<(), Memory> {
+    for client in 1..=n {
+        put(rows, row(alloc, client)?)?;
+    }
+    Ok(())
+}
+
+#[test]
+fn rows_in_rising_order_keep_the_tree_low(rt: HostRuntime) -> Result<(), Fail> {
+    let mut rows = TreeRows::empty(rt.alloc());
+    assert!(rt; rows.root().is_none());
+    fill(&mut rows, rt.alloc(), 20_000)?;
+    assert_eq!(rt; rows.count(), 20_000);
+    assert!(rt; rows.height() >= 15);
+    assert!(rt; rows.height() <= 29);
+    assert_eq!(rt; rows.root().map(|node| node.size), Some(20_000));
+    Ok(())
+}
+
+#[test]
+fn a_copy_keeps_its_rows(rt: HostRuntime) -> Result<(), Fail> {
+    let alloc = rt.alloc();
+    let mut rows = TreeRows::empty(alloc);
+    fill(&mut rows, alloc, 3)?;
+    let copy = rows.copy()?;
+    let mut changed = row(alloc, 1)?;
+    changed.last = 9;
+    put(&mut rows, changed)?;
+    put(&mut rows, row(alloc, 4)?)?;
+    assert_eq!(rt; copy.count(), 3);
+    assert_eq!(rt; copy.find(&client(1)), Some(&row(alloc, 1)?));
+    assert_eq!(rt; rows.find(&client(1)).map(|row| row.last), Some(9));
+    assert_eq!(rt; rows.place(3), Some(&row(alloc, 4)?));
+    Ok(())
+}
+
+/// What a table of two rows replies to backups and guesses of three clients.
+fn replies<T: RowStore + Drop>(alloc: Global) -> Result<Vec<Reply>, Memory> {
+    let mut table: TableOver<T> = TableOver::new(alloc, 2);
+    let mut replies = Vec::new(alloc);
+    for n in 1..=9u16 {
+        let asker = client(n % 3);
+        replies.push(table.apply(&asker, u64::from(n), &backup(alloc)?)?)?;
+        let guess = Request::Restore { pin: PIN };
+        replies.push(table.apply(&asker, u64::from(n) + 1, &guess)?)?;
+    }
+    Ok(replies)
+}
+
+#[test]
+fn both_stores_give_the_same_replies(rt: HostRuntime) -> Result<(), Fail> {
+    let tree = replies::<TreeRows>(rt.alloc())?;
+    let sorted = replies::<SortedRows>(rt.alloc())?;
+    assert_eq!(rt; tree.len(), 18);
+    assert_eq!(rt; tree, sorted);
     Ok(())
 }
