@@ -4,4 +4,6 @@ pub mod Greatest
 pub mod Bodies
 mod Worked
 mod Counted
+pub mod Walk
 pub mod Raised
+pub mod Answered

@@ -21,3 +21,4 @@ pub mod Ticks
 pub mod Step
 pub mod Laws
 pub mod Raised
+pub mod Answered

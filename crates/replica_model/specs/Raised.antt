@@ -1,5 +1,5 @@
 -- How far a leader raises in a call, and what it answers then.
-use Rattle.std.specs.Prelude.{◌≡◌, ℕ, ◌⊎◌, List, [], ◌∷◌, length, filter, filter_map}
+use Rattle.std.specs.Prelude.{◌≡◌, ◌⊎◌, [], ◌∷◌, length, filter, filter_map}
 use Rattle.replica_model.specs.Path.{Link}
 use Rattle.replica_model.specs.Replica.{Leader, Leading, Replica}
 use Rattle.replica_model.specs.Call.{Input, Call}

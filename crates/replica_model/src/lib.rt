@@ -5,6 +5,7 @@
 
 ghost use Rattle.replica_model.specs.Laws.{ChainFollows, ConfFollows, GreatestIsGreatest, FoldFollows, BytesTellBodies, VotersCounted};
 ghost use Rattle.replica_model.specs.Raised.{StepsRaiseToTheGreatest};
+ghost use Rattle.replica_model.specs.Answered.{StepsAnswerTickets};
 
 pub use values::{MAX_ENTRIES, ROWS_PER_PART, TOP};
 
@@ -61,4 +62,10 @@ pub fn voters_counted_are()
 /// outcomes that this brings, or keeps those that it had.
 pub fn steps_raise_to_the_greatest()
     ensures { StepsRaiseToTheGreatest }
+{}
+
+/// The law that in the very call in which a replica's committed index passes the index of a ticket that it holds, the
+/// batch has the ticket's outcome, with the reply of its request, or, where the call first replaced its entry, tells that.
+pub fn steps_answer_their_tickets()
+    ensures { StepsAnswerTickets }
 {}
