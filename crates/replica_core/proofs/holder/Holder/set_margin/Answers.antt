@@ -1,0 +1,35 @@
+use Rattle.std.proofs.Common.{IfOk, sym, subst, ◌∙◌}
+use Rattle.member_rules.specs.Refusals.{RefusesOr}
+use Rattle.replica_model.specs.Changes as changes
+use Rattle.replica_model.specs.Peers.{newest}
+use Rattle.replica_core.specs.declared.holder.Holder.{Holder}
+use Rattle.replica_core.specs.Calling.{Does}
+use Rattle.replica_core.proofs.Changes.{leader-changes, leading-model, leading-stands}
+use Rattle.replica_core.proofs.Sends.{leads-is}
+use Rattle.replica_core.specs.InRange.{IsForId}
+use Rattle.replica_core.specs.Ranges.{IsBatchInRange}
+use Rattle.replica_core.proofs.Ranged.{refused-in}
+use Rattle.replica_core.proofs.holder.Holder.set_margin.Goals as goal
+
+pub returns-in-Ok-clause-model : goal.returns-in-Ok-clause-model
+returns-in-Ok-clause-model c = λ s st.
+    let h : Holder = c.args.self.now in
+    let margin = c.args.margin in
+    let l = leads-is h.role (sym c.leads.ensures ∙ c.if-not-leads.false) in
+    let m = leading-model h s st l.0 l.1 in
+    let passed = subst (λ r. RefusesOr r (changes.margin_refusal s margin) (record (newest s) { margin = margin })) c.in-Ok.is (c.set_margin.ensures.model s st.log) in
+    subst (λ k. IfOk c.push_members.result (λ to. Does c.push_members.new.self c.push_members.new.batch to k))
+    (sym (leader-changes s m.0 (λ x. changes.margin_refusal s margin) (λ x. changes.push_members s x (record (newest s) { margin = margin })) m.1.0 passed.0))
+    (subst (λ k. IfOk c.push_members.result (λ to. Does c.push_members.new.self c.push_members.new.batch to (changes.push_members s m.0 k))) passed.1
+    (c.push_members.ensures.model s m.0 (leading-stands h s m.0 st m.1.0)))
+
+pub returns-then-not-leads-clause-in_range : goal.returns-then-not-leads-clause-in_range
+returns-then-not-leads-clause-in_range c = λ ranged told.
+    (ranged, (subst IsBatchInRange (sym c.refuse_as_follower.ensures.batch) (refused-in c.args.batch.now _ told), subst IsForId (sym c.refuse_as_follower.ensures.nobody) tt))
+
+pub returns-in-Err-clause-in_range : goal.returns-in-Err-clause-in_range
+returns-in-Err-clause-in_range c = λ ranged told.
+    (ranged, (subst IsBatchInRange (sym c.refuse.ensures.batch) (refused-in c.args.batch.now _ told), subst IsForId (sym c.refuse.ensures.nobody) tt))
+
+pub returns-in-Ok-clause-in_range : goal.returns-in-Ok-clause-in_range
+returns-in-Ok-clause-in_range c = λ ranged told. c.push_members.ensures.in_range ranged told

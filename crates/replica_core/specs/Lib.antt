@@ -1,0 +1,16 @@
+pub mod Standing
+pub mod Logs
+pub mod Inputs
+pub mod Ranges
+pub mod InRange
+pub mod Keeping
+pub mod Applying
+pub mod Asking
+pub mod Replacing
+pub mod Sending
+pub mod Learning
+pub mod Leads
+pub mod Heard
+pub mod Calling
+pub mod Raised
+pub mod Due
