@@ -1,7 +1,12 @@
 pub mod Digits
-pub mod Clients
+pub mod Sized
 pub mod Joins
 pub mod Hexadecimals
+pub mod Requests
 pub mod Statuses
 pub mod Lanes
 pub mod HexText
+pub mod BeginIds
+pub mod Begins
+pub mod Events
+pub mod Words

@@ -13,10 +13,14 @@ Reads (Ok value) said = said ≡ Ok value
 Reads (Err unread.Memory) said = IsOk said
 Reads (Err (unread.Fault fault)) said = said ≡ Err fault
 
+-- a text at field k as n bytes
+abbrev pub sized_from : List ℕ → ℕ → ℕ → Result (List ℕ) RecordFault
+sized_from text k n = do
+  bytes ← bytes_or_fault k (decode_of text)
+  if length bytes == n then Ok bytes else fault Hex k
+
 -- a text at field k as a client
 abbrev pub client_from : List ℕ → ℕ → Result ClientId RecordFault
 client_from text k = do
-  bytes ← do
-    bytes ← bytes_or_fault k (decode_of text)
-    if length bytes == 16 then Ok bytes else fault Hex k
+  bytes ← sized_from text k 16
   Ok (record { 0 = bytes })

@@ -2,6 +2,7 @@
 ghost use Rattle.std.specs.Prelude.{◌≡◌};
 ghost use Rattle.schedule_text.specs.declared.fault.Unread.TheVariants as unread;
 
+use std::alloc::AllocError;
 use std::marker::Model;
 use values::{Cause, Memory};
 
@@ -50,6 +51,14 @@ pub enum Unread {
     Memory,
     /// The record means nothing.
     Fault(RecordFault),
+}
+
+impl From<AllocError> for Unread {
+    ghost from_gives = { λ _ e. e ≡ unread.Memory };
+
+    fn from(_error: AllocError) -> Unread {
+        Unread::Memory
+    }
 }
 
 impl From<Memory> for Unread {

@@ -1,5 +1,5 @@
 //! Bytes as hexadecimal, read and written where they are to stay.
-ghost use Rattle.std.specs.Prelude.{◌≡◌, ◌<◌, ◌≤◌, ◌++◌, ◌+◌, ◌*◌, ◌&&◌, nat_lt, true, false, IsOk, IsErr, IfOk, OnOk, OnErr, length, vec_capacity};
+ghost use Rattle.std.specs.Prelude.{◌≡◌, ◌<◌, ◌≤◌, ◌++◌, ◌+◌, ◌*◌, ◌&&◌, nat_lt, true, false, is_ok, IsOk, IsErr, IfOk, OnOk, OnErr, length, vec_capacity};
 ghost use Rattle.std.specs.List.{list_all};
 ghost use Rattle.hex.specs.Hex.{decode_of, decode_pairs};
 ghost use Rattle.schedule_model.specs.Lines as spec;
@@ -68,6 +68,13 @@ fn all_digits(text: &[u8]) -> bool
     ensures { result ≡ list_all (λ byte. nat_lt (digit_or_16 byte) 16) text.now }
 {
     text.iter().all(|byte| digit_value(*byte) < NO_DIGIT)
+}
+
+/// Whether a text is hexadecimal, in either case: two digits for each byte.
+pub fn is_hexadecimal(text: &[u8]) -> bool
+    ensures { result ≡ is_ok (decode_of text.now) }
+{
+    text.len() % 2 == 0 && all_digits(text)
 }
 
 /// Reads the bytes of hexadecimal, in either case, into a vector that is used again, and answers whether the

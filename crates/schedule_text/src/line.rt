@@ -43,7 +43,8 @@ pub fn push_hex(line: &mut Vec<u8>, bytes: &[u8]) -> Result<(), AllocError>
     pushed
 }
 
-fn cause_word(cause: Cause) -> &'static str
+/// The word of a cause.
+pub fn cause_word(cause: Cause) -> &'static str
     ensures { result.now ≡ spec.cause_word cause }
 {
     match cause {
