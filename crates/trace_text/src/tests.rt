@@ -1,8 +1,8 @@
-use crate::{Closing, GroupRefusal, Quantity, TraceWriter};
-use schedule_text::Schedule;
+use crate::{Closing, GroupRefusal, Quantity, TraceWriter, trace_lines};
+use schedule_text::{RecordFault, Schedule};
 use std::alloc::{AllocError, Global};
 use std::test::Fail;
-use values::{ClientId, Part, Report};
+use values::{Batch, Cause, ClientId, Event, Items, Part, Refusal, Report};
 
 /// Each record, behind the first of them.
 const RECORDS: [&'static str; 19] = [
@@ -81,6 +81,31 @@ fn lines_stand_behind_the_text(rt: HostRuntime) -> Result<(), Fail> {
     assert_eq!(rt;
         text.as_slice(),
         b"before\nrefused,size,tries,256\nclient,abababababababababababababababab,wrongpin,2\nlog,5\nrollbacks,exceeded\nend,1,2,3\nstopped,limit,states\n".as_slice()
+    );
+    Ok(())
+}
+
+#[test]
+fn an_event_stands_before_its_batch(rt: HostRuntime) -> Result<(), Fail> {
+    let batch = Batch {
+        lead: Some(2),
+        members: Items::new(rt.alloc()),
+        halt: None,
+        taken: None,
+        commits: Items::new(rt.alloc()),
+        answers: Items::new(rt.alloc()),
+        sent: Items::new(rt.alloc()),
+        saved: Some(1),
+        refused: Some(Refusal::NoLink(9)),
+    };
+    let mut text = Vec::from_slice(rt.alloc(), b"before\n")?;
+    trace_lines(4, &Event::Tick { replica: 3 }, &batch, 1, 1, 3, &mut text)?;
+    let mut writer = TraceWriter::behind(text);
+    writer.stopped_at_record(5, &RecordFault::new(Cause::Fields, 0))?;
+    writer.stopped_at_frame()?;
+    assert_eq!(rt;
+        writer.finish(true).as_slice(),
+        b"before\nevent,4,tick,3\nlead,3,2\nsaved,3,1\nrefused,nolink,9\nstopped,schedule,5,fields,0\nstopped,frame\n".as_slice()
     );
     Ok(())
 }
