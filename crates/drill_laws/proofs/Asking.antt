@@ -11,7 +11,7 @@ use Rattle.values.specs.declared.message.Request.{Request}
 use Rattle.values.specs.declared.message.Answer.TheVariants.{Busy}
 use Rattle.client_msgs.specs.Canonical.{canonical_request}
 use Rattle.client_msgs.specs.Reading.{request_of}
-use Rattle.record_table.specs.Places.{ClientAsk}
+use Rattle.record_rules.specs.Places.{ClientAsk}
 use Rattle.replica_model.specs.declared.Progress.{Progress}
 use Rattle.replica_model.specs.declared.TheConstants.{KEPT_BELOW, MAX_OPEN}
 use Rattle.replica_model.specs.Path.{Path, Link, chain, point, term_at}

@@ -15,7 +15,7 @@ use Rattle.client_msgs.specs.Canonical.{canonical_request}
 use Rattle.client_msgs.specs.Reading.{request_of}
 use Rattle.client_msgs.specs.Sizes.{size_fault}
 use Rattle.client_msgs.proofs.RoundTrip.{request_of-canonical}
-use Rattle.record_table.specs.Clients.{client_eq}
+use Rattle.record_rules.specs.Clients.{client_eq}
 use Rattle.schedule_model.specs.Client.{Core, first_request, numbers_needed}
 use Rattle.schedule_model.specs.Drill.{client, secret, pin, no_pin, tries, wish}
 use Rattle.group_model.specs.Group.{is_client, core_of, put_core}

@@ -17,8 +17,8 @@ use Rattle.values.specs.declared.limits.TheConstants.{MOST_ROWS}
 use Rattle.values.specs.declared.row.Row.{Row}
 use Rattle.values.specs.declared.want.Want.TheVariants as want
 use Rattle.client_msgs.specs.Canonical.{canonical_request}
-use Rattle.record_table.specs.Clients.{client_eq}
-use Rattle.record_table.specs.Table.{RecordTable, row_of, put_row, empty_table}
+use Rattle.record_rules.specs.Clients.{client_eq}
+use Rattle.record_rules.specs.Table.{RecordTable, row_of, put_row, empty_table}
 use Rattle.replica_model.specs.Path.{Path, Link}
 use Rattle.replica_model.specs.Folds.{fold_of}
 use Rattle.replica_model.specs.Message.{Message}

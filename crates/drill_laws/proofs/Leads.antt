@@ -13,7 +13,7 @@ use Rattle.values.specs.declared.message.Answer.TheVariants.{Outcome}
 use Rattle.values.specs.declared.peer.PeerMsg.TheVariants.{Append}
 use Rattle.group_quorum.specs.Conf.{met}
 use Rattle.group_quorum.specs.Voters.{is_in}
-use Rattle.record_table.specs.Places.{ClientAsk}
+use Rattle.record_rules.specs.Places.{ClientAsk}
 use Rattle.replica_model.specs.declared.TheConstants.{KEPT_BELOW}
 use Rattle.replica_model.specs.Path.{Path, Link, chain, point, term_at}
 use Rattle.replica_model.specs.Configs.{is_members, changed_by, conf, conf_index, older_conf}

@@ -6,7 +6,7 @@ use Rattle.std.proofs.lemmas.List.{append-nil, append_assoc, length-append, map-
 use Rattle.values.specs.declared.entry.LogEntry.{LogEntry}
 use Rattle.values.specs.declared.ids.ClientId.{ClientId}
 use Rattle.values.specs.declared.limits.TheConstants.{MOST_ROWS}
-use Rattle.record_table.specs.Places.{ClientAsk}
+use Rattle.record_rules.specs.Places.{ClientAsk}
 use Rattle.replica_model.specs.Path.{Path, Link, term_at}
 use Rattle.replica_model.specs.Replica.{Replica}
 use Rattle.replica_model.specs.Message.{Message}

@@ -24,9 +24,9 @@ use Rattle.values.specs.declared.want.WantFault.TheVariants as fault
 use Rattle.client_msgs.specs.Canonical.{canonical_request}
 use Rattle.client_msgs.specs.Reading.{request_of}
 use Rattle.client_msgs.specs.Sizes.{size_fault}
-use Rattle.record_table.specs.declared.status.TheConstants.{OK, ERROR}
-use Rattle.record_table.specs.Rules.{apply, apply_by, after_acting}
-use Rattle.record_table.specs.Table.{RecordTable, row_of, put_row}
+use Rattle.record_rules.specs.declared.status.TheConstants.{OK, ERROR}
+use Rattle.record_rules.specs.Rules.{apply, apply_by, after_acting}
+use Rattle.record_rules.specs.Table.{RecordTable, row_of, put_row}
 use Rattle.replica_model.specs.Path.{Path, Link}
 use Rattle.replica_model.specs.Folds.{fold_of, reply_of}
 use Rattle.replica_model.specs.Message.{Message}

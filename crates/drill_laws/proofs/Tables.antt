@@ -14,10 +14,10 @@ use Rattle.values.specs.declared.message.Request.{Request}
 use Rattle.values.specs.declared.row.Row.{Row}
 use Rattle.client_msgs.specs.Canonical.{canonical_request}
 use Rattle.client_msgs.specs.Reading.{request_of}
-use Rattle.record_table.specs.Clients.{client_cmp, client_eq}
-use Rattle.record_table.specs.Places.{ClientAsk, Places, apply_place, fold_places, reply_at}
-use Rattle.record_table.specs.Rules.{apply}
-use Rattle.record_table.specs.Table.{RecordTable, row_of, put_row}
+use Rattle.record_rules.specs.Clients.{client_cmp, client_eq}
+use Rattle.record_rules.specs.Places.{ClientAsk, Places, apply_place, fold_places, reply_at}
+use Rattle.record_rules.specs.Rules.{apply}
+use Rattle.record_rules.specs.Table.{RecordTable, row_of, put_row}
 use Rattle.replica_model.specs.Path.{Path}
 use Rattle.replica_model.specs.Folds.{ask_of, place_of, places_of, fold_of, reply_of}
 use Rattle.drill_laws.proofs.Queue.{at_first}

@@ -11,10 +11,10 @@ use Rattle.values.specs.declared.message.Request.TheVariants.{Restore}
 use Rattle.values.specs.declared.message.Response.TheVariants.{Restore as Restored}
 use Rattle.client_msgs.specs.Canonical.{canonical_request}
 use Rattle.client_msgs.specs.Reading.{request_of}
-use Rattle.record_table.specs.declared.status.TheConstants.{OK}
-use Rattle.record_table.specs.Places.{ClientAsk, Places, ask_at, Acts}
-use Rattle.record_table.specs.Laws.{NumbersRise, GuessesEnd, Earned, IsKnown}
-use Rattle.record_table.specs.Places.{fold_places}
+use Rattle.record_rules.specs.declared.status.TheConstants.{OK}
+use Rattle.record_rules.specs.Places.{ClientAsk, Places, ask_at, Acts}
+use Rattle.record_rules.specs.Laws.{NumbersRise, GuessesEnd, Earned, IsKnown}
+use Rattle.record_rules.specs.Places.{fold_places}
 use Rattle.replica_model.specs.Path.{Link, entry_at}
 use Rattle.replica_model.specs.Folds.{places_of, reply_of}
 use Rattle.group_model.specs.Enclave.{Client}

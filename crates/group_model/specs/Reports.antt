@@ -15,9 +15,9 @@ use Rattle.values.specs.declared.want.Report.{Report}
 use Rattle.values.specs.declared.want.Report.TheVariants as report
 use Rattle.values.specs.declared.want.Want.{Want}
 use Rattle.values.specs.declared.want.Want.TheVariants as want
-use Rattle.record_table.specs.declared.status.TheConstants.{OK}
-use Rattle.record_table.specs.Places.{Acts, ask_at, reply_at, fold_places}
-use Rattle.record_table.specs.Laws.{Earned, record_of}
+use Rattle.record_rules.specs.declared.status.TheConstants.{OK}
+use Rattle.record_rules.specs.Places.{Acts, ask_at, reply_at, fold_places}
+use Rattle.record_rules.specs.Laws.{Earned, record_of}
 use Rattle.replica_model.specs.Path.{Link}
 use Rattle.schedule_model.specs.Client.{Flight, flight_request, Reports, reply_meaning}
 use Rattle.group_model.specs.Group.{Hearing}

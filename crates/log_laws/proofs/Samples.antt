@@ -9,7 +9,7 @@ use Rattle.values.specs.declared.message.Reply.TheVariants.{Applied}
 use Rattle.values.specs.declared.message.Response.TheVariants.{Backup}
 use Rattle.proto_wire.specs.Fields.{payload_field, field_at, sequence_behind}
 use Rattle.proto_wire.specs.Varint.{groups, number_in}
-use Rattle.record_table.specs.declared.status.TheConstants.{OK}
+use Rattle.record_rules.specs.declared.status.TheConstants.{OK}
 use Rattle.replica_model.specs.Path.{Link, term_at}
 use Rattle.replica_model.specs.Linked.{kind_of}
 use Rattle.replica_model.specs.Keyed.{value_at}

@@ -13,7 +13,7 @@ use Rattle.group_model.specs.Run.{World}
 use Rattle.group_model.specs.Reports.{Heard, backup_flight, StoredHolds}
 use Rattle.values.specs.declared.message.Reply.TheVariants.{Applied}
 use Rattle.values.specs.declared.message.Response.TheVariants.{Backup as BackedUp}
-use Rattle.record_table.specs.declared.status.TheConstants.{OK}
+use Rattle.record_rules.specs.declared.status.TheConstants.{OK}
 use Rattle.model_rows.specs.StoredTwice.{OwnPlaces}
 
 -- the index of an outcome

@@ -3,7 +3,7 @@
 ghost use Rattle.std.specs.Prelude.{◌≡◌, ◌^◌};
 ghost use Rattle.group_quorum.specs.declared.TheConstants.{MAX_ID, MAX_MARGIN, MAX_VOTERS};
 ghost use Rattle.values.specs.declared.limits.TheConstants.{MAX_ANSWERS, MAX_BATCH, MAX_CLIENTS, MAX_CONTENT, MAX_ENTRIES, MAX_EVENTS, MAX_FRAMES, MAX_MESSAGES, MAX_PARTS, MAX_REPLICAS, MAX_REQUEST, MAX_SETTLED, MAX_SOURCE, MAX_STATES, MOST_ROWS, ROWS_PER_PART, TOP};
-ghost use Rattle.record_table.specs.declared.status.TheConstants.{ERROR, MISSING, OK, PIN_MISMATCH};
+ghost use Rattle.record_rules.specs.declared.status.TheConstants.{ERROR, MISSING, OK, PIN_MISMATCH};
 ghost use Rattle.replica_model.specs.declared.TheConstants.{KEPT_BELOW, MAX_LEARNERS, MAX_OPEN};
 ghost use Rattle.trace_model.specs.Driver.{max_turns};
 ghost use Rattle.trace_model.specs.TraceLines.{max_line};

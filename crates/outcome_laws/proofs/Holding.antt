@@ -16,10 +16,10 @@ use Rattle.values.specs.declared.message.Response.TheVariants.{Restore as Restor
 use Rattle.client_msgs.specs.Canonical.{canonical_request}
 use Rattle.client_msgs.specs.Reading.{request_of}
 use Rattle.client_msgs.specs.declared.fault.RequestFault.{RequestFault}
-use Rattle.record_table.specs.declared.status.TheConstants.{OK}
-use Rattle.record_table.specs.Rules.{apply}
-use Rattle.record_table.specs.Places.{ClientAsk, Places, fold_places, ask_at, reply_at}
-use Rattle.record_table.specs.Laws.{AreValid, NumbersRise, GuessesEnd, DataIsEarned, Earned}
+use Rattle.record_rules.specs.declared.status.TheConstants.{OK}
+use Rattle.record_rules.specs.Rules.{apply}
+use Rattle.record_rules.specs.Places.{ClientAsk, Places, fold_places, ask_at, reply_at}
+use Rattle.record_rules.specs.Laws.{AreValid, NumbersRise, GuessesEnd, DataIsEarned, Earned}
 use Rattle.replica_model.specs.Path.{Link}
 use Rattle.replica_model.specs.Folds.{ask_of}
 use Rattle.group_model.specs.Run.{Recorded, World, run}

@@ -24,9 +24,9 @@ use Rattle.client_msgs.specs.Sizes.{FitsRequest, outside, secret_fault, pin_faul
 use Rattle.client_msgs.specs.declared.fault.RequestFault.{RequestFault}
 use Rattle.values.specs.Sizes.{IsSecret, IsValid}
 use Rattle.values.specs.declared.message.Reply.{Reply}
-use Rattle.record_table.specs.Places.{ClientAsk, Places, fold_places, ask_at, reply_at}
-use Rattle.record_table.specs.Rules.{apply}
-use Rattle.record_table.specs.Laws.{AreValid}
+use Rattle.record_rules.specs.Places.{ClientAsk, Places, fold_places, ask_at, reply_at}
+use Rattle.record_rules.specs.Rules.{apply}
+use Rattle.record_rules.specs.Laws.{AreValid}
 use Rattle.replica_model.specs.Path.{Path, entry_at}
 use Rattle.replica_model.specs.Folds.{ask_of, place_of, places_of, reply_of}
 use Rattle.group_model.specs.Log.{IsFrontOf}

@@ -8,7 +8,7 @@ ghost use Rattle.group_model.specs.Due.{TicketsAnswered};
 ghost use Rattle.group_model.specs.Laws.{OneLog};
 
 use log_laws::one_log;
-use record_table::{data_is_earned, guesses_end, numbers_rise};
+use record_rules::{data_is_earned, guesses_end, numbers_rise};
 
 /// The law that in every run within the rollback bound and without a collision there is one log, each outcome is that
 /// log's reply at a place where its request stands, and the log's places keep the laws of the record table. It only

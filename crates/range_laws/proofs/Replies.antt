@@ -25,11 +25,11 @@ use Rattle.proto_wire.specs.Written.{tag, block_field, varint_field}
 use Rattle.client_msgs.specs.Canonical.{canonical_request, request_fields}
 use Rattle.client_msgs.specs.Reading.{request_of}
 use Rattle.client_msgs.proofs.RoundTrip.{request_of-canonical}
-use Rattle.record_table.specs.Clients.{client_cmp, client_eq}
-use Rattle.record_table.specs.Table.{RecordTable, empty_table, row_of, put_row}
-use Rattle.record_table.specs.Places.{ClientAsk, Places, apply_place, fold_places, ask_at}
-use Rattle.record_table.specs.Rules.{act, after_guess, after_wrong_guess, after_acting, ask_known, ask_unknown, apply_by, apply}
-use Rattle.record_table.specs.declared.status.TheConstants.{OK, MISSING, ERROR}
+use Rattle.record_rules.specs.Clients.{client_cmp, client_eq}
+use Rattle.record_rules.specs.Table.{RecordTable, empty_table, row_of, put_row}
+use Rattle.record_rules.specs.Places.{ClientAsk, Places, apply_place, fold_places, ask_at}
+use Rattle.record_rules.specs.Rules.{act, after_guess, after_wrong_guess, after_acting, ask_known, ask_unknown, apply_by, apply}
+use Rattle.record_rules.specs.declared.status.TheConstants.{OK, MISSING, ERROR}
 use Rattle.replica_model.specs.Path.{Path}
 use Rattle.replica_model.specs.Folds.{ask_of, place_of, places_of, reply_of}
 use Rattle.schedule_model.specs.Reading.{max_u32, max_u64}

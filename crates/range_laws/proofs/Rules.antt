@@ -24,10 +24,10 @@ use Rattle.values.specs.declared.row.Kept.{Kept}
 use Rattle.std.specs.declared.cmp.Ordering.{Ordering}
 use Rattle.std.specs.declared.cmp.Ordering.TheVariants as order
 use Rattle.std.specs.Ordering.{match_ordering}
-use Rattle.record_table.specs.Clients.{client_cmp}
-use Rattle.record_table.specs.Table.{RecordTable, empty_table, row_of, put_row}
-use Rattle.record_table.specs.Places.{ClientAsk, apply_place}
-use Rattle.record_table.specs.Rules.{act, after_acting, ask_known, ask_unknown, apply_by}
+use Rattle.record_rules.specs.Clients.{client_cmp}
+use Rattle.record_rules.specs.Table.{RecordTable, empty_table, row_of, put_row}
+use Rattle.record_rules.specs.Places.{ClientAsk, apply_place}
+use Rattle.record_rules.specs.Rules.{act, after_acting, ask_known, ask_unknown, apply_by}
 use Rattle.replica_model.specs.Folds.{place_of, places_of}
 use Rattle.values.specs.declared.peer.PeerMsg.{PeerMsg}
 use Rattle.values.specs.declared.peer.PeerMsg.TheVariants.{AskVote, Vote, Accepted, Rejected}

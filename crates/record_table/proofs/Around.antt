@@ -6,11 +6,11 @@ use Rattle.std.specs.declared.cmp.Ordering.TheVariants.{Less, Equal, Greater}
 use Rattle.std.specs.Ordering.{is_eq, match_ordering}
 use Rattle.values.specs.declared.ids.ClientId.{ClientId}
 use Rattle.values.specs.declared.row.Row.{Row}
-use Rattle.record_table.specs.Clients.{client_cmp, client_eq}
-use Rattle.record_table.specs.Table.{row_of, put_row, IsRising}
-use Rattle.record_table.proofs.Clients.{client_total, flip, client_cmp-same}
-use Rattle.record_table.proofs.Rows.{skip, take_head}
-use Rattle.record_table.proofs.Placed.{EachAfter, Ascends, ascends, rises, after_further}
+use Rattle.record_rules.specs.Clients.{client_cmp, client_eq}
+use Rattle.record_rules.specs.Table.{row_of, put_row, IsRising}
+use Rattle.record_rules.proofs.Clients.{client_total, flip, client_cmp-same}
+use Rattle.record_rules.proofs.Rows.{skip, take_head}
+use Rattle.record_rules.proofs.Placed.{EachAfter, Ascends, ascends, rises, after_further}
 
 each_front : (a : ClientId) (l m : List Row) → EachAfter a (l ++ m) → EachAfter a l
 each_front a [] m h = tt

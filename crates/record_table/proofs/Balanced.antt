@@ -4,8 +4,8 @@ use Rattle.std.proofs.Math.Pow.{pow_mono}
 use Rattle.std.proofs.lemmas.Bool.{cases_order}
 use Rattle.std.specs.declared.cmp.Ordering.TheVariants.{Less, Greater}
 use Rattle.values.specs.declared.row.Row.{Row}
-use Rattle.record_table.specs.Clients.{client_cmp}
-use Rattle.record_table.specs.Table.{IsRising}
+use Rattle.record_rules.specs.Clients.{client_cmp}
+use Rattle.record_rules.specs.Table.{IsRising}
 use Rattle.record_table.specs.Trees.{Tree, rows_of, size_of, levels_of, IsBalanced, forked, AreNear, Leans, SettlesAt, IsPutIn}
 use Rattle.record_table.specs.Trees.Tree.{Empty, Fork}
 use Rattle.record_table.proofs.Around.{put_row-below, put_row-above}

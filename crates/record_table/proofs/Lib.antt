@@ -1,4 +1,3 @@
-mod Worked
 mod Around
 mod Balanced
 mod Nodes
@@ -9,21 +8,10 @@ mod Walked
 mod Stored
 mod RowBelow
 mod WayTo
-mod Clients
-mod Rows
-mod Turns
-mod Numbers
-mod Guesses
-mod Backups
-mod Earned
-mod Placed
 mod SlotsLemmas
-mod Sound
+mod Changed
 mod Copied
 mod Spelled
-mod Prefixes
 mod Inserted
 mod PagesLemmas
 mod NumberedLemmas
-mod Tables
-mod RowsFollow

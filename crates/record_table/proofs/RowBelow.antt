@@ -9,8 +9,8 @@ use Rattle.values.specs.declared.row.Row.{Row}
 use Rattle.record_table.specs.declared.node.Node.{Node}
 use Rattle.record_table.specs.declared.node.Node.TheOpen.{Node-F}
 use Rattle.record_table.specs.declared.node.Node.TheViews.{out-Node, roll-Node, out-roll-Node}
-use Rattle.record_table.specs.Clients.{client_cmp, IsNumberOf}
-use Rattle.record_table.specs.Table.{row_of}
+use Rattle.record_rules.specs.Clients.{client_cmp, IsNumberOf}
+use Rattle.record_rules.specs.Table.{row_of}
 use Rattle.record_table.specs.Trees.{Tree, tree_of, tree_under, rows_of, size_of, IsBalanced, Leans, after_steps, IsPutIn, IsPutBelow}
 use Rattle.record_table.specs.Trees.Tree.{Empty, Fork}
 use Rattle.values.specs.declared.limits.TheConstants.{MOST_ROWS}

@@ -10,11 +10,11 @@ use Rattle.values.specs.declared.row.Row.{Row}
 use Rattle.record_table.specs.declared.node.Node.{Node}
 use Rattle.record_table.specs.declared.node.Node.TheViews.{out-Node}
 use Rattle.values.specs.declared.limits.TheConstants.{MOST_ROWS}
-use Rattle.record_table.specs.Clients.{client_cmp, IsNumberOf}
-use Rattle.record_table.specs.Table.{row_of, IsRising}
+use Rattle.record_rules.specs.Clients.{client_cmp, IsNumberOf}
+use Rattle.record_rules.specs.Table.{row_of, IsRising}
 use Rattle.record_table.specs.Trees.{Tree, tree_of, tree_under, rows_of, IsBalanced, AreNear, SettlesAt, IsPutIn}
 use Rattle.record_table.specs.Trees.Tree.{Fork}
-use Rattle.record_table.proofs.Clients.{client_cmp-self, flip}
+use Rattle.record_rules.proofs.Clients.{client_cmp-self, flip}
 use Rattle.record_table.proofs.SlotsLemmas.{below_by_number, same_by_number}
 use Rattle.record_table.proofs.Nodes.{tree_out}
 use Rattle.record_table.proofs.Around.{rising_front, rising_back, row_of-below, row_of-middle, row_of-above, length-put_new}

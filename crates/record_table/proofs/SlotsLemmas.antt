@@ -11,13 +11,13 @@ use Rattle.values.specs.declared.ids.ClientId.{ClientId}
 use Rattle.values.specs.declared.row.Row.{Row}
 use Rattle.values.specs.declared.limits.TheConstants.{MOST_ROWS}
 use Rattle.record_table.specs.declared.change.Change.{Change}
-use Rattle.record_table.specs.Clients.{client_cmp, IsNumberOf}
-use Rattle.record_table.specs.Table.{row_of, put_row, kept_in, IsRising}
+use Rattle.record_rules.specs.Clients.{client_cmp, IsNumberOf}
+use Rattle.record_rules.specs.Table.{row_of, put_row, kept_in, IsRising}
 use Rattle.record_table.specs.Changes.{kept_after, changed_row}
 use Rattle.record_table.specs.Slots.{no_row, rows_in, IsSorted}
 use Rattle.record_table.specs.Numbered.{numbers_in, IsSlotOf, IsBetween}
-use Rattle.record_table.proofs.Clients.{client_total, client_cmp-same, client_cmp-self, flip}
-use Rattle.record_table.proofs.Placed.{IsRowAt, IsGap, row_of-at, row_of-gap, put_row-at, put_row-gap, IsRising-put}
+use Rattle.record_rules.proofs.Clients.{client_total, client_cmp-same, client_cmp-self, flip}
+use Rattle.record_rules.proofs.Placed.{IsRowAt, IsGap, row_of-at, row_of-gap, put_row-at, put_row-gap, IsRising-put}
 use Rattle.record_table.proofs.Inserted.{map-insert, All-insert}
 use Rattle.record_table.proofs.Spelled.{client_cmp-numbers}
 

@@ -8,7 +8,7 @@ use Rattle.std.specs.Cmp.{nat_cmp_is, ranks}
 use Rattle.std.specs.Cmp.Lexicographic.{slice_cmp}
 use Rattle.std.specs.Int.{w128, byte_worth, sum_through, from_be_bytes}
 use Rattle.values.specs.declared.ids.ClientId.{ClientId}
-use Rattle.record_table.specs.Clients.{client_cmp, IsNumberOf}
+use Rattle.record_rules.specs.Clients.{client_cmp, IsNumberOf}
 use Rattle.std.proofs.Math.Nat.{mul-le-mul_right}
 
 -- the number that the bytes spell, the first worth most

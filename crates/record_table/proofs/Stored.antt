@@ -3,9 +3,9 @@ use Rattle.std.proofs.Common.{◌≡◌, ◌<◌, ◌⊎◌, inl, inr, length, s
 use Rattle.std.specs.Prelude.{IsSome, IsNone, Result, Ok, Err, OnOk, OnErr}
 use Rattle.values.specs.declared.row.Row.{Row}
 use Rattle.values.specs.declared.limits.TheConstants.{MOST_ROWS}
-use Rattle.record_table.specs.Table.{row_of, IsRising}
+use Rattle.record_rules.specs.Table.{row_of, IsRising}
 use Rattle.record_table.specs.Trees.{Tree, rows_of, IsTree, IsPutIn, IsWrittenIn}
-use Rattle.record_table.proofs.Placed.{IsRising-put}
+use Rattle.record_rules.proofs.Placed.{IsRising-put}
 use Rattle.record_table.proofs.Around.{length-put_new}
 use Rattle.record_table.proofs.RowIn.{none_is}
 use Rattle.record_table.proofs.WrittenIn.{as_long}

@@ -5,8 +5,8 @@ use Rattle.values.specs.declared.ids.ClientId.{ClientId}
 use Rattle.values.specs.declared.row.Row.{Row}
 use Rattle.record_table.specs.declared.node.Node.{Node}
 use Rattle.record_table.specs.declared.node.Node.TheViews.{out-Node}
-use Rattle.record_table.specs.Clients.{IsNumberOf}
-use Rattle.record_table.specs.Table.{row_of, IsRising}
+use Rattle.record_rules.specs.Clients.{IsNumberOf}
+use Rattle.record_rules.specs.Table.{row_of, IsRising}
 use Rattle.record_table.specs.Trees.{Tree, tree_of, tree_under, rows_of, size_of, IsBalanced}
 use Rattle.record_table.proofs.SlotsLemmas.{below_by_number}
 use Rattle.record_table.proofs.Nodes.{tree_out}

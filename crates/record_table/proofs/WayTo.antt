@@ -7,8 +7,8 @@ use Rattle.values.specs.declared.ids.ClientId.{ClientId}
 use Rattle.record_table.specs.declared.node.Node.{Node}
 use Rattle.record_table.specs.declared.node.Node.TheViews.{out-Node}
 use Rattle.record_table.specs.declared.walk.Way.TheVariants.{New}
-use Rattle.record_table.specs.Clients.{IsNumberOf}
-use Rattle.record_table.specs.Table.{row_of}
+use Rattle.record_rules.specs.Clients.{IsNumberOf}
+use Rattle.record_rules.specs.Table.{row_of}
 use Rattle.record_table.specs.Trees.{Tree, tree_of, tree_under, rows_of, levels_of, IsBalanced, Leans, leans, after_steps}
 use Rattle.record_table.specs.Trees.Tree.{Empty, Fork}
 use Rattle.record_table.specs.Ways.{IsWay}

@@ -10,9 +10,9 @@ use Rattle.record_table.specs.declared.change.Change.{Change}
 use Rattle.record_table.specs.declared.node.Node.{Node}
 use Rattle.record_table.specs.declared.node.Node.TheOpen.{Node-F}
 use Rattle.record_table.specs.declared.node.Node.TheViews.{out-Node, roll-Node}
-use Rattle.record_table.specs.Clients.{client_cmp, IsNumberOf}
+use Rattle.record_rules.specs.Clients.{client_cmp, IsNumberOf}
 use Rattle.record_table.specs.Changes.{changed_row, kept_after}
-use Rattle.record_table.specs.Table.{row_of, kept_in, IsRising}
+use Rattle.record_rules.specs.Table.{row_of, kept_in, IsRising}
 use Rattle.record_table.specs.Trees.{Tree, tree_of, tree_under, rows_of, IsBalanced, IsWrittenIn}
 use Rattle.record_table.specs.Trees.Tree.{Fork}
 use Rattle.record_table.proofs.SlotsLemmas.{below_by_number, same_by_number}

@@ -7,8 +7,8 @@ use Rattle.values.specs.declared.message.Request.{Request}
 use Rattle.values.specs.declared.message.Response.{Response}
 use Rattle.record_table.specs.declared.change.Change.{Change}
 use Rattle.record_table.specs.declared.change.Change.TheVariants.{Stay, Forget, Keep, Expose, Leave}
-use Rattle.record_table.specs.Table.{row_of, kept_in}
-use Rattle.record_table.specs.Rules.{act}
+use Rattle.record_rules.specs.Table.{row_of, kept_in}
+use Rattle.record_rules.specs.Rules.{act}
 
 -- the record after the change
 abbrev pub kept_after : Change → Option Kept → Option Kept

@@ -1,9 +1,3 @@
-pub mod Clients
-pub mod Table
-pub mod Rules
-pub mod Places
-pub mod Valid
-pub mod Laws
 pub mod Changes
 pub mod Slots
 pub mod Trees

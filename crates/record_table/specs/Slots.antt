@@ -2,8 +2,8 @@
 use Rattle.std.specs.Prelude.{◌≡◌, ℕ, ◌<◌, ◌≤◌, List, [], map, length, slice_index, slice_index_or, None, All}
 use Rattle.values.specs.declared.row.Row.{Row}
 use Rattle.values.specs.declared.limits.TheConstants.{MOST_ROWS}
-use Rattle.record_table.specs.Clients.{IsNumberOf}
-use Rattle.record_table.specs.Table.{IsRising}
+use Rattle.record_rules.specs.Clients.{IsNumberOf}
+use Rattle.record_rules.specs.Table.{IsRising}
 
 -- what would stand in a slot that is not there
 abbrev pub no_row : Row

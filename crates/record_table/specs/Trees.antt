@@ -5,8 +5,8 @@ use Rattle.std.specs.declared.alloc.Global.{Global}
 use Rattle.std.specs.Ordering.{match_ordering}
 use Rattle.values.specs.declared.ids.ClientId.{ClientId}
 use Rattle.values.specs.declared.row.Row.{Row}
-use Rattle.record_table.specs.Clients.{client_cmp}
-use Rattle.record_table.specs.Table.{put_row, IsRising}
+use Rattle.record_rules.specs.Clients.{client_cmp}
+use Rattle.record_rules.specs.Table.{put_row, IsRising}
 use Rattle.values.specs.declared.limits.TheConstants.{MOST_ROWS}
 use Rattle.record_table.specs.declared.node.Node.{Node}
 use Rattle.record_table.specs.declared.node.Node.TheOpen.{Node-F}

@@ -1,7 +1,7 @@
 -- Where the row of a client goes in a tree.
 use Rattle.std.specs.Prelude.{Some, None, IsSome, IsNone}
 use Rattle.values.specs.declared.ids.ClientId.{ClientId}
-use Rattle.record_table.specs.Table.{row_of}
+use Rattle.record_rules.specs.Table.{row_of}
 use Rattle.record_table.specs.Trees.{Tree, rows_of, Leans, after_steps}
 use Rattle.record_table.specs.declared.walk.Way.{Way}
 use Rattle.record_table.specs.declared.walk.Way.TheVariants.{Known, New}

@@ -1,8 +1,8 @@
 //! A row more in a tree, which stays balanced.
 ghost use Rattle.std.specs.Prelude.{◌≡◌, ◌<◌, suc, IfOk, OnOk, OnErr, IsNone, length};
 ghost use Rattle.values.specs.declared.limits.TheConstants.{MOST_ROWS};
-ghost use Rattle.record_table.specs.Clients.{IsNumberOf};
-ghost use Rattle.record_table.specs.Table.{row_of, IsRising};
+ghost use Rattle.record_rules.specs.Clients.{IsNumberOf};
+ghost use Rattle.record_rules.specs.Table.{row_of, IsRising};
 ghost use Rattle.record_table.specs.Trees.{tree_of, tree_under, rows_of, IsBalanced, IsPutIn, IsPutBelow, Leans, after_steps};
 ghost use Rattle.record_table.specs.Ways.{IsWay};
 ghost use Rattle.record_table.specs.declared.walk.Way.TheVariants.{New};

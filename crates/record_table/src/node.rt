@@ -3,6 +3,7 @@ ghost use Rattle.std.specs.Prelude.{◌≡◌, ◌<◌, ◌+◌, IfOk, length};
 ghost use Rattle.values.specs.declared.limits.TheConstants.{MOST_ROWS};
 ghost use Rattle.record_table.specs.Trees.{tree_of, tree_under, rows_of, levels_of, size_of, IsBalanced, forked};
 
+use std::alloc::Global;
 use std::rc::Rc;
 use values::{Memory, Row};
 
@@ -80,4 +81,17 @@ pub fn copied(node: &Node) -> Result<Node, Memory>
         size: node.size,
         levels: node.levels,
     })
+}
+
+/// Puts a copy of its own in the place of a node that others hold too.
+pub fn unshare(alloc: Global, node: &mut Rc<Node>) -> Result<(), Memory>
+    ensures { tree_of node.new.value ≡ tree_of node.old.value }
+{
+    match Rc::get_mut(node) {
+        Some(_own) => Ok(()),
+        None => {
+            *node = Rc::new(alloc, copied(node)?)?;
+            Ok(())
+        }
+    }
 }

@@ -1,5 +1,5 @@
 //! The order of clients.
-ghost use Rattle.record_table.specs.Clients.{IsNumberOf};
+ghost use Rattle.record_rules.specs.Clients.{IsNumberOf};
 
 use values::ClientId;
 

@@ -4,7 +4,7 @@ ghost use Rattle.values.specs.declared.row.Kept.{Kept as KeptRecord};
 ghost use Rattle.record_table.specs.Changes.{IsOutcome};
 
 use crate::change::Change;
-use crate::status::{ERROR, MISSING, OK, PIN_MISMATCH};
+use record_rules::status::{ERROR, MISSING, OK, PIN_MISMATCH};
 use std::alloc::Global;
 use values::{Bytes, Hash, Kept, Memory, Request, Response, TryCopy};
 

@@ -9,7 +9,7 @@ use values::{ClientId, Memory, Row};
 /// A store of rows. Its content is a list of rows in strictly rising client order.
 pub trait RowStore: Sized {
     ghost use Rattle.values.specs.declared.row.Row.{Row};
-    ghost use Rattle.record_table.specs.Table.{row_of, put_row, IsRising};
+    ghost use Rattle.record_rules.specs.Table.{row_of, put_row, IsRising};
     ghost use Rattle.record_table.specs.Changes.{changed_row};
 
     /// The rows.

@@ -21,8 +21,8 @@ pub struct TableOver<T: RowStore> {
 pub type Table = TableOver<TreeRows>;
 
 impl<T: RowStore> Model for TableOver<T> {
-    ghost use Rattle.record_table.specs.Table.{RecordTable};
-    ghost use Rattle.record_table.specs.Valid.{IsSound};
+    ghost use Rattle.record_rules.specs.Table.{RecordTable};
+    ghost use Rattle.record_rules.specs.Valid.{IsSound};
 
     ghost Value = { RecordTable };
 
@@ -34,10 +34,10 @@ impl<T: RowStore> Model for TableOver<T> {
 impl<T: RowStore> TableOver<T> {
     ghost use Rattle.std.specs.Prelude.{◌≡◌, ◌≤◌, IsNone, length, take, drop, IfOk, OnOk, OnErr, option_copied};
     ghost use Rattle.values.specs.declared.limits.TheConstants.{MOST_ROWS};
-    ghost use Rattle.record_table.specs.Table.{empty_table, row_of, can_add, row_added};
+    ghost use Rattle.record_rules.specs.Table.{empty_table, row_of, can_add, row_added};
     ghost use Rattle.values.specs.Sizes.{IsValid};
-    ghost use Rattle.record_table.specs.Valid.{IsValidRow, IsSound};
-    ghost use Rattle.record_table.specs.Rules.{apply, ask_unknown};
+    ghost use Rattle.record_rules.specs.Valid.{IsValidRow, IsSound};
+    ghost use Rattle.record_rules.specs.Rules.{apply, ask_unknown};
 
     /// A table of this limit in which no client is known.
     pub fn new(alloc: Global, limit: u32) -> TableOver<T>

@@ -1,14 +1,14 @@
 //! Each public call on its happy path.
 ghost use Rattle.std.specs.Prelude.{IfOk};
 ghost use Rattle.values.specs.Sizes.{IsValid};
-ghost use Rattle.record_table.specs.Valid.{IsValidRow};
+ghost use Rattle.record_rules.specs.Valid.{IsValidRow};
 
 use crate::change::{Change, change_row};
 use crate::sorted::SortedRows;
-use crate::status::{OK, PIN_MISMATCH};
 use crate::store::RowStore;
 use crate::table::{Table, TableOver};
 use crate::tree::TreeRows;
+use record_rules::status::{OK, PIN_MISMATCH};
 use std::alloc::Global;
 use std::test::Fail;
 use values::{Bytes, ClientId, Hash, Kept, Memory, Reply, Request, Response, Row};

@@ -89,8 +89,15 @@ impl RowStore for TreeRows {
         match way_to(&self.root, &row.client, number) {
             Way::Known => {
                 let (client, last) = (row.client, row.last);
-                let change = keeping(row.kept);
-                change_under(self.alloc, &mut self.root, &client, number, last, change)
+                let mut change = keeping(row.kept);
+                change_under(
+                    self.alloc,
+                    &mut self.root,
+                    &client,
+                    number,
+                    last,
+                    &mut change,
+                )
             }
             Way::New(leaning) => {
                 let row = Rc::new(self.alloc, row)?;
@@ -101,7 +108,15 @@ impl RowStore for TreeRows {
 
     fn change(&mut self, client: &ClientId, last: u64, change: Change) -> Result<(), Memory> {
         let number = number_of(client);
-        change_under(self.alloc, &mut self.root, client, number, last, change)
+        let mut change = change;
+        change_under(
+            self.alloc,
+            &mut self.root,
+            client,
+            number,
+            last,
+            &mut change,
+        )
     }
 
     fn copy(&self) -> Result<TreeRows, Memory> {

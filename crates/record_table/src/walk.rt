@@ -1,8 +1,8 @@
 //! Walks down a tree of rows.
 ghost use Rattle.std.specs.Prelude.{◌≡◌, ◌≤◌, if◌then◌else◌, Some, length, option_copied, slice_get};
 ghost use Rattle.values.specs.declared.limits.TheConstants.{MOST_ROWS};
-ghost use Rattle.record_table.specs.Clients.{IsNumberOf};
-ghost use Rattle.record_table.specs.Table.{row_of, IsRising};
+ghost use Rattle.record_rules.specs.Clients.{IsNumberOf};
+ghost use Rattle.record_rules.specs.Table.{row_of, IsRising};
 ghost use Rattle.record_table.specs.Trees.{tree_of, tree_under, rows_of, IsBalanced, leans};
 ghost use Rattle.record_table.specs.Ways.{IsWay};
 

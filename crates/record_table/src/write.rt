@@ -1,19 +1,21 @@
 //! A row of a tree that is changed: in its place, where nobody else holds the nodes on the way to
 //! it, and else in copies of them.
 ghost use Rattle.std.specs.Prelude.{◌≡◌, IsSome, IfOk, OnOk, OnErr};
-ghost use Rattle.record_table.specs.Clients.{IsNumberOf};
+ghost use Rattle.record_rules.specs.Clients.{IsNumberOf};
 ghost use Rattle.record_table.specs.Changes.{changed_row, kept_after};
-ghost use Rattle.record_table.specs.Table.{row_of, IsRising};
+ghost use Rattle.record_rules.specs.Table.{row_of, IsRising};
 ghost use Rattle.record_table.specs.Trees.{tree_of, tree_under, rows_of, IsBalanced, IsWrittenIn};
 
 use crate::change::{Change, change_row};
-use crate::node::{Link, Node, copied};
+use crate::node::{Link, Node, unshare};
 use crate::order::number_of;
 use std::alloc::Global;
+use std::mem;
 use std::rc::Rc;
 use values::{ClientId, Memory, Row, TryCopy};
 
-/// Changes the row of a known client. After `Memory` the tree is as before.
+/// Changes the row of a known client. After `Memory` the tree has the rows that it had. The change is taken out of its place
+/// at the row only, so that no step down the way moves it.
 #[cycle(change)]
 pub fn change_under(
     alloc: Global,
@@ -21,26 +23,22 @@ pub fn change_under(
     client: &ClientId,
     number: u128,
     last: u64,
-    change: Change,
+    change: &mut Change,
 ) -> Result<(), Memory>
     requires number { IsNumberOf client.now number }
     requires balanced { IsBalanced (tree_under link.old) }
     requires rising { IsRising (rows_of (tree_under link.old)) }
     requires known { IsSome (row_of (rows_of (tree_under link.old)) client.now) }
-    ensures ok { let row = changed_row (rows_of (tree_under link.old)) client.now last change in
+    ensures ok { let row = changed_row (rows_of (tree_under link.old)) client.now last change.old in
         OnOk result (IsWrittenIn (tree_under link.old) row (tree_under link.new)) }
     ensures err { OnErr result (tree_under link.new ≡ tree_under link.old) }
 {
     let Some(node) = link else { unreachable!() };
-    match Rc::get_mut(node) {
-        Some(own) => change_in(alloc, own, client, number, last, change),
-        None => {
-            let mut copy = copied(node)?;
-            change_in(alloc, &mut copy, client, number, last, change)?;
-            *node = Rc::new(alloc, copy)?;
-            Ok(())
-        }
-    }
+    unshare(alloc, node)?;
+    let Some(own) = Rc::get_mut(node) else {
+        return Err(Memory);
+    };
+    change_in(alloc, own, client, number, last, change)
 }
 
 /// The same of a node and the trees below it.
@@ -51,13 +49,13 @@ fn change_in(
     client: &ClientId,
     number: u128,
     last: u64,
-    change: Change,
+    change: &mut Change,
 ) -> Result<(), Memory>
     requires number { IsNumberOf client.now number }
     requires balanced { IsBalanced (tree_of node.old) }
     requires rising { IsRising (rows_of (tree_of node.old)) }
     requires known { IsSome (row_of (rows_of (tree_of node.old)) client.now) }
-    ensures ok { let row = changed_row (rows_of (tree_of node.old)) client.now last change in
+    ensures ok { let row = changed_row (rows_of (tree_of node.old)) client.now last change.old in
         OnOk result (IsWrittenIn (tree_of node.old) row (tree_of node.new)) }
     ensures err { OnErr result (tree_of node.new ≡ tree_of node.old) }
 {
@@ -73,10 +71,16 @@ fn change_in(
 }
 
 /// Changes a row, or puts a changed copy in the place of one that others hold too.
-fn change_held(alloc: Global, row: &mut Rc<Row>, last: u64, change: Change) -> Result<(), Memory>
-    ensures ok { OnOk result (row.new.value ≡ record row.old.value { last = last; kept = kept_after change row.old.value.kept }) }
+fn change_held(
+    alloc: Global,
+    row: &mut Rc<Row>,
+    last: u64,
+    change: &mut Change,
+) -> Result<(), Memory>
+    ensures ok { OnOk result (row.new.value ≡ record row.old.value { last = last; kept = kept_after change.old row.old.value.kept }) }
     ensures err { OnErr result (row.new.value ≡ row.old.value) }
 {
+    let change = mem::replace(change, Change::Stay);
     match Rc::get_mut(row) {
         Some(own) => {
             change_row(own, last, change);

@@ -7,8 +7,8 @@ use Rattle.values.specs.declared.message.Request.{Request}
 use Rattle.values.specs.declared.message.Reply.{Reply}
 use Rattle.client_msgs.specs.declared.fault.RequestFault.{RequestFault}
 use Rattle.client_msgs.specs.Reading.{request_of}
-use Rattle.record_table.specs.Table.{RecordTable}
-use Rattle.record_table.specs.Places.{ClientAsk, Places, fold_places, reply_at}
+use Rattle.record_rules.specs.Table.{RecordTable}
+use Rattle.record_rules.specs.Places.{ClientAsk, Places, fold_places, reply_at}
 use Rattle.replica_model.specs.Path.{Path}
 
 -- a client's ask, where its bytes are a request

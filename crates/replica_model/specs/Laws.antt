@@ -5,7 +5,7 @@ use Rattle.values.specs.declared.entry.Body.TheVariants.{Noop, Ask, Members}
 use Rattle.values.specs.declared.entry.LogEntry.{LogEntry}
 use Rattle.group_quorum.specs.Conf.{Conf}
 use Rattle.group_quorum.specs.Voters.{is_in}
-use Rattle.record_table.specs.Places.{apply_place}
+use Rattle.record_rules.specs.Places.{apply_place}
 use Rattle.replica_model.specs.Path.{Path, Link, chain}
 use Rattle.replica_model.specs.Linked.{kind_of, body_bytes}
 use Rattle.replica_model.specs.Configs.{is_members, changed_by, conf, conf_index, older_conf}

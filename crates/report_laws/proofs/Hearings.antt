@@ -17,9 +17,9 @@ use Rattle.values.specs.declared.want.Report.{Report}
 use Rattle.values.specs.declared.want.Report.TheVariants as report
 use Rattle.values.specs.declared.want.Want.{Want}
 use Rattle.values.specs.declared.want.Want.TheVariants as want
-use Rattle.record_table.specs.declared.status.TheConstants.{OK}
-use Rattle.record_table.specs.Places.{ClientAsk, ask_at, reply_at, IsApplied, Acts}
-use Rattle.record_table.specs.Laws.{Earned}
+use Rattle.record_rules.specs.declared.status.TheConstants.{OK}
+use Rattle.record_rules.specs.Places.{ClientAsk, ask_at, reply_at, IsApplied, Acts}
+use Rattle.record_rules.specs.Laws.{Earned}
 use Rattle.schedule_model.specs.Client.{Flight, first_request, second_request, flight_request, Meaning, Nothing, GoesOn, Reports, reply_meaning, answer_meaning, heard_as, hear_in, heard}
 use Rattle.replica_model.specs.Path.{Link}
 use Rattle.group_model.specs.Group.{Hearing}

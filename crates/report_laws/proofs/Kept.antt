@@ -17,7 +17,7 @@ use Rattle.values.specs.declared.want.Want.{Want}
 use Rattle.values.specs.declared.want.WantFault.{WantFault}
 use Rattle.client_msgs.specs.Canonical.{canonical_request}
 use Rattle.client_msgs.specs.Sizes.{size_fault}
-use Rattle.record_table.specs.declared.status.TheConstants.{OK}
+use Rattle.record_rules.specs.declared.status.TheConstants.{OK}
 use Rattle.schedule_model.specs.Client.{Core, Flight, first_request, numbers_needed, flight_request, flies, want_in, want_sizes, wanted, said, Meaning, Nothing, GoesOn, Reports, answer_meaning, last_after, heard_as, hear_in, heard}
 use Rattle.schedule_model.specs.Reading.{max_u64}
 use Rattle.replica_model.specs.Message.{Message}

@@ -12,7 +12,7 @@ use Rattle.values.specs.declared.want.Report.{Report}
 use Rattle.values.specs.declared.want.Report.TheVariants as report
 use Rattle.values.specs.declared.want.Want.{Want}
 use Rattle.values.specs.declared.want.Want.TheVariants as want
-use Rattle.record_table.specs.declared.status.TheConstants.{OK}
+use Rattle.record_rules.specs.declared.status.TheConstants.{OK}
 use Rattle.schedule_model.specs.Client.{Flight, Meaning, Nothing, GoesOn, Reports, response_meaning, reply_meaning, answer_meaning}
 
 abbrev pub IsStore : Want → Type 0

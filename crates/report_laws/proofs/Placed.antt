@@ -21,9 +21,9 @@ use Rattle.client_msgs.specs.Canonical.{canonical_request}
 use Rattle.client_msgs.specs.Reading.{request_of}
 use Rattle.client_msgs.specs.Sizes.{outside, secret_fault, pin_fault, tries_fault, size_fault, FitsRequest}
 use Rattle.client_msgs.specs.declared.fault.RequestFault.{RequestFault}
-use Rattle.record_table.specs.declared.status.TheConstants.{OK}
-use Rattle.record_table.specs.Places.{ask_at, reply_at}
-use Rattle.record_table.specs.Laws.{Earned}
+use Rattle.record_rules.specs.declared.status.TheConstants.{OK}
+use Rattle.record_rules.specs.Places.{ask_at, reply_at}
+use Rattle.record_rules.specs.Laws.{Earned}
 use Rattle.schedule_model.specs.Client.{Flight, first_request, second_request, flight_request}
 use Rattle.replica_model.specs.Folds.{ask_of}
 use Rattle.group_model.specs.Run.{Recorded, World}

@@ -14,11 +14,11 @@ use Rattle.values.specs.declared.message.Response.{Response}
 use Rattle.values.specs.declared.message.Response.TheVariants.{Expose as Exposed}
 use Rattle.values.specs.declared.row.Kept.{Kept}
 use Rattle.values.specs.declared.row.Row.{Row}
-use Rattle.record_table.specs.declared.status.TheConstants.{OK, ERROR}
-use Rattle.record_table.specs.Table.{kept_in}
-use Rattle.record_table.specs.Rules.{act, apply_by, apply}
-use Rattle.record_table.specs.Places.{ClientAsk, Places, fold_places, ask_at, reply_at, IsApplied, Acts}
-use Rattle.record_table.specs.Laws.{record_of, row_after, RowsArePut, RowsStay, NumbersRise}
+use Rattle.record_rules.specs.declared.status.TheConstants.{OK, ERROR}
+use Rattle.record_rules.specs.Table.{kept_in}
+use Rattle.record_rules.specs.Rules.{act, apply_by, apply}
+use Rattle.record_rules.specs.Places.{ClientAsk, Places, fold_places, ask_at, reply_at, IsApplied, Acts}
+use Rattle.record_rules.specs.Laws.{record_of, row_after, RowsArePut, RowsStay, NumbersRise}
 
 -- what becomes of a client's row, place by place
 pub record RowLaws : Type 0 where

@@ -5,7 +5,7 @@ ghost use Rattle.group_model.specs.Reports.{ReportsFollow};
 
 use client_msgs::requests_are_read_again;
 use outcome_laws::one_log_laws;
-use record_table::rows_follow_asks;
+use record_rules::rows_follow_asks;
 
 /// The law that in every run within the rollback bound and without a collision the reports of a client that no ask
 /// names follow the log. Stored: the client heard of its backup and later of its expose, and there the record stands

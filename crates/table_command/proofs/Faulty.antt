@@ -3,7 +3,7 @@ use Rattle.std.proofs.Common.{refl, sym, ap, ◌∙◌, ◌≡◌, ℕ, List, []
 use Rattle.client_msgs.specs.Reading.{ReadsRequest}
 use Rattle.client_msgs.specs.declared.fault.RequestFault.{RequestFault}
 use Rattle.client_msgs.specs.declared.fault.RequestFault.TheVariants as fault
-use Rattle.record_table.specs.Table.{RecordTable}
+use Rattle.record_rules.specs.Table.{RecordTable}
 use Rattle.values.specs.declared.message.Request.{Request}
 use Rattle.schedule_model.specs.Lines.{line_text}
 use Rattle.schedule_text.specs.Joined.{after_commas}

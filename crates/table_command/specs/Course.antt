@@ -1,8 +1,8 @@
 -- What the player of a table writes, for whatever records follow.
 use Rattle.std.specs.Prelude.{ℕ, ◌+◌, List, Bool, true, false, Option, Some, None, Result, Ok, Err}
 use Rattle.record_stream.specs.Course.{Course}
-use Rattle.record_table.specs.Table.{RecordTable}
-use Rattle.record_table.specs.Rules.{apply}
+use Rattle.record_rules.specs.Table.{RecordTable}
+use Rattle.record_rules.specs.Rules.{apply}
 use Rattle.values.specs.declared.message.Request.{Request}
 use Rattle.client_msgs.specs.Reading.{request_of}
 use Rattle.client_msgs.specs.declared.fault.RequestFault.{RequestFault}

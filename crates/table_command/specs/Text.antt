@@ -1,6 +1,6 @@
 -- The text of a source's bytes.
 use Rattle.std.specs.Prelude.{ℕ, List, Option}
-use Rattle.record_table.specs.Table.{empty_table}
+use Rattle.record_rules.specs.Table.{empty_table}
 use Rattle.record_cutting.specs.Lines.{records_of, whole_records}
 use Rattle.schedule_model.specs.Written.{all_written, no_closing, text_with}
 use Rattle.schedule_text.specs.declared.fault.Stopped.{Stopped}

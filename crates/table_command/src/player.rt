@@ -3,7 +3,7 @@ ghost use Rattle.std.specs.Prelude.{◌≡◌, ◌≤◌, ◌<◌, ◌+◌, ◌+
 ghost use Rattle.record_stream.specs.Alone.{none_asked, none_asked_history, nothing_alone, one_course, spent_alone, unstopped_alone};
 ghost use Rattle.record_cutting.specs.Lines.{record_of};
 ghost use Rattle.values.specs.declared.limits.TheConstants.{MOST_ROWS};
-ghost use Rattle.record_table.specs.Table.{empty_table};
+ghost use Rattle.record_rules.specs.Table.{empty_table};
 ghost use Rattle.schedule_model.specs.Lines.{line_text, stopped_at_limit, stopped_at_record};
 ghost use Rattle.schedule_model.specs.Quantities.{Events};
 ghost use Rattle.schedule_text.specs.Joined.{after_commas};

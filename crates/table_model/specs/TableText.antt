@@ -6,8 +6,8 @@ use Rattle.values.specs.declared.message.Answer.TheVariants as answer
 use Rattle.values.specs.declared.message.Part.TheVariants as part
 use Rattle.values.specs.declared.message.Reply.{Reply}
 use Rattle.values.specs.declared.message.Request.{Request}
-use Rattle.record_table.specs.Table.{RecordTable, empty_table}
-use Rattle.record_table.specs.Rules.{apply}
+use Rattle.record_rules.specs.Table.{RecordTable, empty_table}
+use Rattle.record_rules.specs.Rules.{apply}
 use Rattle.client_msgs.specs.Reading.{request_of}
 use Rattle.client_msgs.specs.declared.fault.RequestFault.{RequestFault}
 use Rattle.client_msgs.specs.declared.fault.RequestFault.TheVariants as request_faults

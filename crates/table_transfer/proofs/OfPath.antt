@@ -6,7 +6,7 @@ use Rattle.std.proofs.lemmas.List.{take_all}
 use Rattle.std.proofs.Math.Seq.{take-add}
 use Rattle.values.specs.declared.row.Row.{Row}
 use Rattle.values.specs.declared.peer.TablePart.{TablePart}
-use Rattle.record_table.specs.Table.{empty_table, row_added}
+use Rattle.record_rules.specs.Table.{empty_table, row_added}
 use Rattle.replica_model.specs.Path.{Link, Path, same_point}
 use Rattle.replica_model.specs.Folds.{fold_of}
 use Rattle.replica_model.specs.Replica.{Named, Taking}

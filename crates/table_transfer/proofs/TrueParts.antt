@@ -3,7 +3,7 @@ use Rattle.std.proofs.Common.{◌≡◌, ℕ, ◌<◌, ◌≤◌, ◌*◌, List,
 use Rattle.std.proofs.lemmas.List.{length-take}
 use Rattle.values.specs.declared.row.Row.{Row}
 use Rattle.std.proofs.lemmas.List.Elements.{All-take, All-drop}
-use Rattle.record_table.specs.Valid.{IsSound, IsValidRow}
+use Rattle.record_rules.specs.Valid.{IsSound, IsValidRow}
 use Rattle.table_transfer.specs.TakenParts.{IsTakable}
 use Rattle.replica_model.specs.Path.{Link, Path}
 use Rattle.replica_model.specs.Replica.{Named}

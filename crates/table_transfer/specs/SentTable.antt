@@ -3,7 +3,7 @@ use Rattle.std.specs.Prelude.{◌≡◌, ℕ, ◌&&◌, ◌==◌, nat_lt, cond}
 use Rattle.values.specs.declared.entry.Point.{Point}
 use Rattle.values.specs.declared.peer.TablePart.{TablePart}
 use Rattle.group_quorum.specs.Conf.{Conf}
-use Rattle.record_table.specs.Table.{RecordTable}
+use Rattle.record_rules.specs.Table.{RecordTable}
 use Rattle.replica_model.specs.Path.{Link, end_point, same_point, last_term}
 use Rattle.replica_model.specs.Configs.{conf, conf_index}
 use Rattle.replica_model.specs.Folds.{fold_of}

@@ -4,8 +4,8 @@ use Rattle.values.specs.declared.entry.Point.{Point}
 use Rattle.values.specs.declared.row.Row.{Row}
 use Rattle.values.specs.declared.peer.TablePart.{TablePart}
 use Rattle.values.specs.declared.limits.TheConstants.{MOST_ROWS}
-use Rattle.record_table.specs.Table.{RecordTable, empty_table, row_added}
-use Rattle.record_table.specs.Valid.{IsValidRow}
+use Rattle.record_rules.specs.Table.{RecordTable, empty_table, row_added}
+use Rattle.record_rules.specs.Valid.{IsValidRow}
 use Rattle.replica_model.specs.Path.{first_hash, same_point}
 use Rattle.table_transfer.specs.declared.taking.TakePart.{TakePart}
 use Rattle.table_transfer.specs.declared.taking.TakePart.TheVariants.{Taken, Whole, Other}

@@ -1,10 +1,10 @@
 //! What holds of the table of a path.
 ghost use Rattle.std.specs.Prelude.{◌≡◌, ℕ, fold};
-ghost use Rattle.record_table.specs.Table.{empty_table, row_added};
+ghost use Rattle.record_rules.specs.Table.{empty_table, row_added};
 ghost use Rattle.replica_model.specs.Path.{Path};
 ghost use Rattle.replica_model.specs.Folds.{fold_of};
 
-use record_table::{rows_make_their_table, tables_are_bounded};
+use record_rules::{rows_make_their_table, tables_are_bounded};
 
 /// The table of a path has the limit that it was folded with, and its rows make it again. It only
 /// names the laws of all tables.

@@ -1,7 +1,7 @@
 //! A table that is being sent.
 ghost use Rattle.std.specs.Prelude.{◌≡◌, ◌≤◌, length, Ok, IfOk};
 ghost use Rattle.group_quorum.specs.Voters.{conf_of};
-ghost use Rattle.record_table.specs.Valid.{IsSound};
+ghost use Rattle.record_rules.specs.Valid.{IsSound};
 ghost use Rattle.values.specs.declared.limits.TheConstants.{MAX_PARTS, ROWS_PER_PART};
 ghost use Rattle.replica_model.specs.Path.{Link};
 ghost use Rattle.replica_model.specs.Replica.{Named};

@@ -1,8 +1,8 @@
 //! The parts of a table that were taken.
 ghost use Rattle.std.specs.Prelude.{◌≡◌, ◌+◌, ◌≤◌, ◌++◌, None, Some, fold, IfOk, OnOk, OnErr, All};
 ghost use Rattle.values.specs.declared.limits.TheConstants.{MOST_ROWS};
-ghost use Rattle.record_table.specs.Table.{empty_table, row_added};
-ghost use Rattle.record_table.specs.Valid.{IsValidRow};
+ghost use Rattle.record_rules.specs.Table.{empty_table, row_added};
+ghost use Rattle.record_rules.specs.Valid.{IsValidRow};
 ghost use Rattle.replica_model.specs.Path.{Link};
 ghost use Rattle.replica_model.specs.Replica.{Named, Taking as TakingOf};
 ghost use Rattle.replica_model.specs.Tables.{IsTruePart};
@@ -48,7 +48,7 @@ pub enum TakePart {
 impl Model for Parts {
     ghost use Rattle.std.specs.Prelude.{◌≤◌, All};
     ghost use Rattle.values.specs.declared.limits.TheConstants.{MOST_ROWS};
-    ghost use Rattle.record_table.specs.Valid.{IsValidRow};
+    ghost use Rattle.record_rules.specs.Valid.{IsValidRow};
     ghost use Rattle.table_transfer.specs.TakenParts.{TakenParts};
 
     ghost Value = { TakenParts };

@@ -1,6 +1,6 @@
 use Rattle.std.proofs.Common.{refl, sym, ap, subst, ◌∙◌, arith}
 use Rattle.std.specs.Prelude.{Some}
-use Rattle.record_table.specs.Table.{row_of, IsRising}
+use Rattle.record_rules.specs.Table.{row_of, IsRising}
 use Rattle.record_table.specs.Trees.{tree_under, rows_of}
 use Rattle.record_table.proofs.RowIn.{whole_at, number_at}
 use Rattle.record_table.proofs.Walked.{found_here, found_left, found_right, rising_left, rising_right}

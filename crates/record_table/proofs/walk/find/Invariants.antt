@@ -1,5 +1,5 @@
 use Rattle.std.proofs.Common.{◌≡◌}
-use Rattle.record_table.specs.Table.{row_of, IsRising}
+use Rattle.record_rules.specs.Table.{row_of, IsRising}
 use Rattle.record_table.specs.Trees.{tree_under, rows_of}
 use Rattle.record_table.proofs.walk.find.Given as goal
 

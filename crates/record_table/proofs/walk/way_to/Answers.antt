@@ -1,7 +1,7 @@
 use Rattle.std.proofs.Common.{ℕ, refl, sym, ap, subst, ◌∙◌, arith}
 use Rattle.std.specs.Prelude.{IsSome, IsNone}
 use Rattle.record_table.specs.declared.node.Node.TheViews.{out-Node}
-use Rattle.record_table.specs.Table.{row_of, IsRising}
+use Rattle.record_rules.specs.Table.{row_of, IsRising}
 use Rattle.record_table.specs.Trees.{tree_of, tree_under, rows_of, levels_of, IsBalanced, after_steps}
 use Rattle.record_table.proofs.RowIn.{whole_at, number_at}
 use Rattle.record_table.proofs.Walked.{found_here, found_left, found_right, rising_left, rising_right, balanced_left, balanced_right}

@@ -1,6 +1,6 @@
 use Rattle.std.proofs.Common.{◌≡◌, ℕ, ◌+◌, ◌≤◌}
 use Rattle.std.specs.Prelude.{IfSome}
-use Rattle.record_table.specs.Table.{row_of, IsRising}
+use Rattle.record_rules.specs.Table.{row_of, IsRising}
 use Rattle.record_table.specs.Trees.{tree_under, rows_of, levels_of, IsBalanced, Leans, after_steps}
 use Rattle.record_table.proofs.walk.way_to.Given as goal
 

@@ -1,6 +1,6 @@
 use Rattle.std.proofs.Common.{◌≡◌, take}
 use Rattle.std.specs.Prelude.{fold}
-use Rattle.record_table.specs.Table.{row_added}
+use Rattle.record_rules.specs.Table.{row_added}
 use Rattle.table_transfer.proofs.taking.add_rows.Given as goal
 
 -- so far the rows that the loop has passed are added

@@ -1,12 +1,12 @@
 use Rattle.std.proofs.Common.{◌≡◌, sym, ap, subst, ◌∙◌}
 use Rattle.std.specs.Prelude.{IsSome, slice_set}
 use Rattle.std.specs.List.{concat}
-use Rattle.record_table.specs.Table.{put_row, row_of}
+use Rattle.record_rules.specs.Table.{put_row, row_of}
 use Rattle.record_table.specs.Changes.{changed_row}
 use Rattle.record_table.specs.Slots.{rows_in, IsSorted}
 use Rattle.record_table.specs.Numbered.{numbers_in, IsSlotOf, IsBetween}
 use Rattle.record_table.specs.Pages.{place_of}
-use Rattle.record_table.proofs.Placed.{row_of-gap}
+use Rattle.record_rules.proofs.Placed.{row_of-gap}
 use Rattle.record_table.proofs.SlotsLemmas.{changes, gap_here}
 use Rattle.record_table.proofs.sorted.SortedRowsRowStore.change.Goals as goal
 use Rattle.record_table.proofs.sorted.SortedRowsRowStore.change.Goals.{After-self-1}

@@ -2,11 +2,11 @@ use Rattle.std.proofs.Common.{sym, ap, subst, ◌∙◌}
 use Rattle.std.specs.Prelude.{Some}
 use Rattle.std.specs.List.{concat}
 use Rattle.std.proofs.lemmas.List.{get_or_default}
-use Rattle.record_table.specs.Table.{row_of}
+use Rattle.record_rules.specs.Table.{row_of}
 use Rattle.record_table.specs.Slots.{no_row, rows_in}
 use Rattle.record_table.specs.Numbered.{numbers_in, IsSlotOf, IsBetween}
 use Rattle.record_table.specs.Pages.{place_of}
-use Rattle.record_table.proofs.Placed.{row_of-gap}
+use Rattle.record_rules.proofs.Placed.{row_of-gap}
 use Rattle.record_table.proofs.SlotsLemmas.{slot_within, found_row, gap_here}
 use Rattle.record_table.proofs.sorted.SortedRowsRowStore.find.Goals as goal
 

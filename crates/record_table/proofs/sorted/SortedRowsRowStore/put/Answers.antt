@@ -2,7 +2,7 @@ use Rattle.std.proofs.Common.{◌≡◌, ◌<◌, ◌⊎◌, [], ◌∷◌, ◌+
 use Rattle.std.specs.Prelude.{IsSome, slice_set}
 use Rattle.std.specs.List.{concat}
 use Rattle.values.specs.declared.limits.TheConstants.{MOST_ROWS}
-use Rattle.record_table.specs.Table.{put_row, row_of}
+use Rattle.record_rules.specs.Table.{put_row, row_of}
 use Rattle.record_table.specs.Slots.{rows_in, IsSorted}
 use Rattle.record_table.specs.Numbered.{numbers_in, IsSlotOf, IsBetween}
 use Rattle.record_table.specs.Pages.{place_of}

@@ -1,6 +1,6 @@
 use Rattle.std.proofs.Common.{inr, sym, subst, arith}
-use Rattle.record_table.specs.Valid.{IsSound}
-use Rattle.record_table.proofs.Sound.{sound_put}
+use Rattle.record_rules.specs.Valid.{IsSound}
+use Rattle.record_rules.proofs.Sound.{sound_put}
 use Rattle.record_table.proofs.table.TableOver.add_row.Goals as goal
 
 pub invariant_of-self-2 : goal.invariant_of-self-2

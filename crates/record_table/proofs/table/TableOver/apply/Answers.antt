@@ -1,6 +1,6 @@
 use Rattle.std.proofs.Common.{sym, subst}
 use Rattle.record_table.specs.Changes.{IsOutcome}
-use Rattle.record_table.proofs.Sound.{sound_change}
+use Rattle.record_table.proofs.Changed.{sound_change}
 use Rattle.record_table.proofs.table.TableOver.apply.Goals as goal
 
 pub invariant_of-self-in-Some : goal.invariant_of-self-in-Some

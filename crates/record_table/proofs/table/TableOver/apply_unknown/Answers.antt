@@ -4,7 +4,8 @@ use Rattle.values.specs.declared.entry.Hash.{Hash}
 use Rattle.values.specs.declared.message.Request.TheVariants.{Backup}
 use Rattle.record_table.specs.declared.change.Change.TheVariants.{Keep}
 use Rattle.record_table.specs.Changes.{IsOutcome}
-use Rattle.record_table.proofs.Sound.{sound_new, backs_up}
+use Rattle.record_rules.proofs.Sound.{backs_up}
+use Rattle.record_table.proofs.Changed.{sound_new}
 use Rattle.record_table.proofs.table.TableOver.apply_unknown.Given.{Over}
 use Rattle.record_table.proofs.table.TableOver.apply_unknown.Goals as goal
 use Rattle.record_table.proofs.table.TableOver.apply_unknown.Goals.{In_ok-put, in-Backup, in_default, else-is_backup-via-then-is_backup+else-count-self, else-is_backup-via-else-is_backup}

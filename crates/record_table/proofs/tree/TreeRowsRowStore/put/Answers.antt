@@ -1,7 +1,7 @@
 use Rattle.std.proofs.Common.{◌<◌, ◌⊎◌, length, sym, ap, subst, ◌∙◌}
 use Rattle.std.specs.Prelude.{IsNone, IsSome}
 use Rattle.values.specs.declared.limits.TheConstants.{MOST_ROWS}
-use Rattle.record_table.specs.Table.{row_of}
+use Rattle.record_rules.specs.Table.{row_of}
 use Rattle.record_table.specs.Changes.{changed_row}
 use Rattle.record_table.specs.Trees.{tree_under, tree_at, rows_of}
 use Rattle.record_table.specs.Ways.{IsWay}
@@ -12,6 +12,11 @@ use Rattle.record_table.proofs.tree.TreeRowsRowStore.put.Goals as goal
 
 pub invariant_of-self : goal.invariant_of-self
 invariant_of-self c =
+    changed_tree c.change_under.result (tree_under c.self.inside.root) (changed_row (rows_of (tree_under c.self.inside.root)) c.args.row.client c.args.row.last c.keeping-change.result)
+    (tree_under c.change_under.new.link) c.self.invariant c.change_under.ensures.ok c.change_under.ensures.err
+
+pub invariant_of-self-in-Known-2 : goal.invariant_of-self-in-Known-2
+invariant_of-self-in-Known-2 c =
     changed_tree c.change_under.result (tree_under c.self.inside.root) (changed_row (rows_of (tree_under c.self.inside.root)) c.args.row.client c.args.row.last c.keeping-change.result)
     (tree_under c.change_under.new.link) c.self.invariant c.change_under.ensures.ok c.change_under.ensures.err
 

@@ -1,5 +1,0 @@
-use Rattle.record_table.proofs.Earned.{data_is_earned}
-use Rattle.record_table.proofs.laws.data_is_earned.Goals as goal
-
-pub returns : goal.returns
-returns c = data_is_earned

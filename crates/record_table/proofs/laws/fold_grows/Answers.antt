@@ -1,5 +1,0 @@
-use Rattle.record_table.proofs.Prefixes.{last_reply}
-use Rattle.record_table.proofs.laws.fold_grows.Goals as goal
-
-pub returns-clause-reply : goal.returns-clause-reply
-returns-clause-reply c = last_reply

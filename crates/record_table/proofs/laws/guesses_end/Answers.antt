@@ -1,5 +1,0 @@
-use Rattle.record_table.proofs.Earned.{guesses_end}
-use Rattle.record_table.proofs.laws.guesses_end.Goals as goal
-
-pub returns : goal.returns
-returns c = guesses_end

@@ -1,8 +1,0 @@
-use Rattle.record_table.proofs.RowsFollow.{rows_are_put, rows_stay}
-use Rattle.record_table.proofs.laws.rows_follow_asks.Goals as goal
-
-pub returns-clause-put : goal.returns-clause-put
-returns-clause-put c = rows_are_put
-
-pub returns-clause-stay : goal.returns-clause-stay
-returns-clause-stay c = rows_stay
