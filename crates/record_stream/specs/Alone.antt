@@ -1,6 +1,6 @@
 -- Players that ask for nothing themselves: their state alone says which course they take.
 use Rattle.std.specs.Prelude.{ℕ, ◌≡◌, refl, ⊤, Bool, true, false, List, [], ◌++◌, None, Result, Err}
-use Rattle.std.proofs.Common.{ap, append-nil, subst, sym, ◌∙◌}
+use Rattle.std.proofs.Common.{ap, ap₂, append-nil, subst, sym, ◌∙◌}
 use Rattle.record_cutting.specs.Lines.{Record}
 use Rattle.record_stream.specs.Course.{Advances, Closes, Course, Cuts, Goes, Halts, IsHistory, PlaysTo, Stops}
 use Rattle.record_stream.specs.declared.player.Stop.{Stop}
@@ -12,10 +12,10 @@ one_course course p fails given a = a ≡ course p
 
 -- and are answered nothing
 abbrev pub none_asked : {S : Type 0} → S → S → List ⊤ → Type 0
-none_asked p q given = ⊤
+none_asked p q given = given ≡ []
 
 pub none_asked_history : {S : Type 0} → IsHistory (none_asked {S = S})
-none_asked_history = record { none = λ p. tt; then = λ p q r gs hs g h. tt }
+none_asked_history = record { none = λ p. refl; then = λ p q r gs hs g h. ap₂ (λ (gs hs : List ⊤). gs ++ hs) g h }
 
 module _ {S R : Type 0} (course : S → Course R) where
   -- what holds of that course
@@ -32,15 +32,15 @@ module _ {S R : Type 0} (course : S → Course R) where
   pub advances_alone : (p q : S) (rs : List Record) (t : List ℕ) → Goes (course p) rs (course q) t → Advances none_asked (one_course course) p rs q t
   advances_alone p q rs t g = record {
     given = [];
-    gained = tt;
+    gained = refl;
     goes = λ fails later a is. (course q, subst (λ (a : Course R). Goes a rs (course q) t) (sym is) g, refl);
   }
 
   pub halts_alone : (p q : S) (rs : List Record) (why : R) (t : List ℕ) → Stops (course p) rs why t → Halts none_asked (one_course course) p rs q why t
-  halts_alone p q rs why t h = record { given = []; gained = tt; stops = λ a is. subst (λ (a : Course R). Stops a rs why t) (sym is) h }
+  halts_alone p q rs why t h = record { given = []; gained = refl; stops = λ a is. subst (λ (a : Course R). Stops a rs why t) (sym is) h }
 
   pub cuts_alone : (p q : S) (rs : List Record) → Cuts none_asked (one_course course) p rs q []
-  cuts_alone p q rs = record { given = []; gained = tt; begins = λ a is. record { text = λ closed more. (a.text closed (rs ++ more), refl) } }
+  cuts_alone p q rs = record { given = []; gained = refl; begins = λ a is. record { text = λ closed more. (a.text closed (rs ++ more), refl) } }
 
   -- want of memory, with the lines as they were
   pub kept_alone : {T : Type 0} (p q : S) (rs : List Record) (old new : List ℕ) (r : Result T (Stop R)) → r ≡ Err stop.Memory → new ≡ old → PlaysTo none_asked (one_course course) p rs q old new r
