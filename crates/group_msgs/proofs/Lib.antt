@@ -2,6 +2,7 @@ mod Examples
 mod Again
 mod KnownLemmas
 mod ListLemmas
+mod Loops
 mod MemberLemmas
 mod PeerLemmas
 mod RuleLemmas

@@ -6,3 +6,4 @@ pub mod Peer
 pub mod Canonical
 pub mod Ranges
 pub mod Gathered
+pub mod Batches

@@ -1,11 +1,13 @@
 //! Writing peer messages.
 
-ghost use Rattle.std.specs.Prelude.{◌≡◌, ◌≤◌, ◌++◌, length, All, IfOk, OnOk};
-ghost use Rattle.proto_wire.specs.Written.{block_field};
+ghost use Rattle.std.specs.Prelude.{◌≡◌, ◌≤◌, ◌<◌, ◌^◌, ◌++◌, length, All, Ok, IfOk, OnOk};
+ghost use Rattle.proto_wire.specs.Written.{block_field, varint_field};
 ghost use Rattle.values.specs.Terms.{term_of};
 ghost use Rattle.group_msgs.specs.Canonical as canonical;
-ghost use Rattle.group_msgs.specs.Ranges.{IsInRange, IsEntryInRange};
+ghost use Rattle.group_msgs.specs.Peer.{peer_of};
+ghost use Rattle.group_msgs.specs.Ranges.{IsInRange, IsEntryInRange, IsHash, FitsBody, FitsRow, FitsPart, FitsPeer};
 
+use crate::laws::messages_are_read_again;
 use byteorder::{BigEndian, ByteOrder};
 use group_quorum::MAX_VOTERS;
 use proto_wire::FieldWriter;
@@ -17,91 +19,129 @@ const MEMBER_ROOM: usize = 2048;
 /// Room for an entry or a row.
 const ITEM_ROOM: usize = 192;
 
-/// The canonical bytes of a message: rising field numbers, shortest varints, defaults left out.
+/// The canonical bytes of a message: rising field numbers, shortest varints, defaults left out. They are read again as
+/// that message.
 pub fn write_peer(alloc: Global, msg: &PeerMsg) -> Result<Bytes, Memory>
     requires { IsInRange msg.now }
-    ensures { IfOk result (λ bytes. bytes ≡ canonical.canonical_peer msg.now) }
+    ensures canonical { IfOk result (λ bytes. bytes ≡ canonical.canonical_peer msg.now) }
+    ensures again { IfOk result (λ bytes. peer_of bytes ≡ Ok msg.now) }
 {
+    messages_are_read_again();
     match peer_bytes(alloc, msg) {
         Ok(bytes) => Ok(Bytes::from(bytes)),
         Err(proto_wire::Memory) => Err(Memory),
     }
 }
 
+// What is written also says what the types of its parts say, since each part is read where it stands.
 fn peer_bytes(alloc: Global, msg: &PeerMsg) -> Result<Vec<u8>, proto_wire::Memory>
     requires { IsInRange msg.now }
-    ensures { IfOk result (λ bytes. bytes.items ≡ canonical.canonical_peer msg.now) }
+    ensures bytes { IfOk result (λ bytes. bytes.items ≡ canonical.canonical_peer msg.now) }
+    ensures fits { OnOk result (FitsPeer msg.now) }
 {
     let mut fields = FieldWriter::with_capacity(alloc, MEMBER_ROOM)?;
-    let (term, number) = put_member(alloc, &mut fields, msg)?;
+    put_member(alloc, &mut fields, msg)?;
     let member = fields.finish();
     let mut message = FieldWriter::with_capacity(alloc, member.len() + 32)?;
-    message.varint(1, term)?;
-    message.message(number, &member)?;
+    message.varint(1, term_of(msg))?;
+    message.message(member_number(msg), &member)?;
     Ok(message.finish())
 }
 
-/// Writes the fields of the message's member, and answers its term and its member's number.
+fn term_of(msg: &PeerMsg) -> u64
+    ensures { result ≡ term_of msg.now }
+{
+    match msg {
+        PeerMsg::AskVote { term, .. }
+        | PeerMsg::Vote { term, .. }
+        | PeerMsg::Append { term, .. }
+        | PeerMsg::Accepted { term, .. }
+        | PeerMsg::Rejected { term, .. }
+        | PeerMsg::Part { term, .. }
+        | PeerMsg::PartTaken { term, .. } => *term,
+    }
+}
+
+fn member_number(msg: &PeerMsg) -> u32
+    ensures { result ≡ canonical.member_number msg.now }
+{
+    match msg {
+        PeerMsg::AskVote { .. } => 2,
+        PeerMsg::Vote { .. } => 3,
+        PeerMsg::Append { .. } => 4,
+        PeerMsg::Accepted { .. } => 5,
+        PeerMsg::Rejected { .. } => 6,
+        PeerMsg::Part { .. } => 7,
+        PeerMsg::PartTaken { .. } => 8,
+    }
+}
+
+/// Writes the fields of the message's member.
 fn put_member(
     alloc: Global,
     fields: &mut FieldWriter,
     msg: &PeerMsg,
-) -> Result<(u64, u32), proto_wire::Memory>
+) -> Result<(), proto_wire::Memory>
     requires { IsInRange msg.now }
-    ensures head { IfOk result (λ head. (head.0 ≡ term_of msg.now) × (head.1 ≡ canonical.member_number msg.now)) }
     ensures fields { OnOk result (fields.new ≡ fields.old ++ canonical.member_fields msg.now) }
+    ensures fits { OnOk result (FitsPeer msg.now) }
 {
     match msg {
         PeerMsg::AskVote {
-            term,
             last_index,
             last_term,
-        } => {
-            fields.varint(1, *last_index)?;
-            fields.varint(2, *last_term)?;
-            Ok((*term, 2))
-        }
-        PeerMsg::Vote { term, granted } => {
-            fields.varint(1, u64::from(*granted))?;
-            Ok((*term, 3))
-        }
+            ..
+        } => put_indices(fields, *last_index, *last_term),
+        PeerMsg::Vote { granted, .. } => fields.varint(1, u64::from(*granted)),
         PeerMsg::Append {
-            term,
             prev,
             entries,
             promise,
             commit,
-        } => {
-            put_point(fields, prev)?;
-            put_entries(alloc, fields, entries.as_slice())?;
-            fields.varint(4, *promise)?;
-            fields.varint(5, *commit)?;
-            Ok((*term, 4))
-        }
-        PeerMsg::Accepted {
-            term,
-            end,
-            promised,
-        } => {
-            put_point(fields, end)?;
-            fields.varint(3, *promised)?;
-            Ok((*term, 5))
-        }
-        PeerMsg::Rejected { term, asked, hint } => {
-            fields.varint(1, *asked)?;
-            fields.varint(2, *hint)?;
-            Ok((*term, 6))
-        }
-        PeerMsg::Part { term, part } => {
-            put_part(alloc, fields, part)?;
-            Ok((*term, 7))
-        }
-        PeerMsg::PartTaken { term, point, next } => {
-            put_point(fields, point)?;
-            fields.varint(3, u64::from(*next))?;
-            Ok((*term, 8))
-        }
+            ..
+        } => put_append(alloc, fields, prev, entries.as_slice(), *promise, *commit),
+        PeerMsg::Accepted { end, promised, .. } => put_marked(fields, end, *promised),
+        PeerMsg::Rejected { asked, hint, .. } => put_indices(fields, *asked, *hint),
+        PeerMsg::Part { part, .. } => put_part(alloc, fields, part),
+        PeerMsg::PartTaken { point, next, .. } => put_marked(fields, point, u64::from(*next)),
     }
+}
+
+/// Writes two indices, or an index and a term, as the fields 1 and 2.
+fn put_indices(fields: &mut FieldWriter, first: u64, second: u64) -> Result<(), proto_wire::Memory>
+    ensures { OnOk result (fields.new ≡ fields.old ++ (varint_field 1 first ++ varint_field 2 second)) }
+{
+    fields.varint(1, first)?;
+    fields.varint(2, second)
+}
+
+/// Writes a point, and a number behind it as field 3.
+fn put_marked(fields: &mut FieldWriter, point: &Point, mark: u64) -> Result<(), proto_wire::Memory>
+    ensures fields { OnOk result (fields.new ≡ fields.old ++ (canonical.point_fields point.now ++ varint_field 3 mark)) }
+    ensures fits { OnOk result (IsHash point.now.hash) }
+{
+    put_point(fields, point)?;
+    fields.varint(3, mark)
+}
+
+fn put_append(
+    alloc: Global,
+    fields: &mut FieldWriter,
+    prev: &Point,
+    entries: &[LogEntry],
+    promise: u64,
+    commit: u64,
+) -> Result<(), proto_wire::Memory>
+    requires { All IsEntryInRange entries.now }
+    ensures fields { OnOk result (fields.new ≡ fields.old
+        ++ (canonical.point_fields prev.now ++ canonical.entries_field entries.now ++ varint_field 4 promise ++ varint_field 5 commit)) }
+    ensures point { OnOk result (IsHash prev.now.hash) }
+    ensures entries { OnOk result (All (λ e. FitsBody e.body) entries.now) }
+{
+    put_point(fields, prev)?;
+    put_entries(alloc, fields, entries)?;
+    fields.varint(4, promise)?;
+    fields.varint(5, commit)
 }
 
 fn put_part(
@@ -110,7 +150,8 @@ fn put_part(
     part: &TablePart,
 ) -> Result<(), proto_wire::Memory>
     requires { length part.now.voters ≤ MAX_VOTERS }
-    ensures { OnOk result (fields.new ≡ fields.old ++ canonical.part_fields part.now) }
+    ensures fields { OnOk result (fields.new ≡ fields.old ++ canonical.part_fields part.now) }
+    ensures fits { OnOk result (FitsPart part.now) }
 {
     put_point(fields, &part.point)?;
     put_config(fields, part)?;
@@ -142,7 +183,8 @@ fn put_entries(
     entries: &[LogEntry],
 ) -> Result<(), proto_wire::Memory>
     requires { All IsEntryInRange entries.now }
-    ensures { OnOk result (fields.new ≡ fields.old ++ canonical.entries_field entries.now) }
+    ensures fields { OnOk result (fields.new ≡ fields.old ++ canonical.entries_field entries.now) }
+    ensures fits { OnOk result (All (λ e. FitsBody e.body) entries.now) }
 {
     for entry in entries {
         let mut item = FieldWriter::with_capacity(alloc, ITEM_ROOM)?;
@@ -154,7 +196,8 @@ fn put_entries(
 
 fn put_entry(fields: &mut FieldWriter, entry: &LogEntry) -> Result<(), proto_wire::Memory>
     requires { IsEntryInRange entry.now }
-    ensures { OnOk result (fields.new ≡ fields.old ++ canonical.entry_fields entry.now) }
+    ensures fields { OnOk result (fields.new ≡ fields.old ++ canonical.entry_fields entry.now) }
+    ensures fits { OnOk result (FitsBody entry.now.body) }
 {
     fields.varint(1, entry.term)?;
     match &entry.body {
@@ -178,7 +221,8 @@ fn put_entry(fields: &mut FieldWriter, entry: &LogEntry) -> Result<(), proto_wir
 }
 
 fn put_rows(alloc: Global, fields: &mut FieldWriter, rows: &[Row]) -> Result<(), proto_wire::Memory>
-    ensures { OnOk result (fields.new ≡ fields.old ++ canonical.rows_field rows.now) }
+    ensures fields { OnOk result (fields.new ≡ fields.old ++ canonical.rows_field rows.now) }
+    ensures fits { OnOk result (All FitsRow rows.now) }
 {
     for row in rows {
         let mut item = FieldWriter::with_capacity(alloc, ITEM_ROOM)?;
@@ -189,7 +233,8 @@ fn put_rows(alloc: Global, fields: &mut FieldWriter, rows: &[Row]) -> Result<(),
 }
 
 fn put_row(fields: &mut FieldWriter, row: &Row) -> Result<(), proto_wire::Memory>
-    ensures { OnOk result (fields.new ≡ fields.old ++ canonical.row_fields row.now) }
+    ensures fields { OnOk result (fields.new ≡ fields.old ++ canonical.row_fields row.now) }
+    ensures fits { OnOk result (FitsRow row.now) }
 {
     fields.block(1, &row.client.0)?;
     fields.varint(2, row.last)?;
@@ -200,7 +245,8 @@ fn put_row(fields: &mut FieldWriter, row: &Row) -> Result<(), proto_wire::Memory
 }
 
 fn put_kept(fields: &mut FieldWriter, kept: &Kept) -> Result<(), proto_wire::Memory>
-    ensures { OnOk result (fields.new ≡ fields.old ++ canonical.kept_fields (Some kept.now)) }
+    ensures fields { OnOk result (fields.new ≡ fields.old ++ canonical.kept_fields (Some kept.now)) }
+    ensures fits { OnOk result (IsHash kept.now.pin) }
 {
     fields.block(3, kept.secret.as_slice())?;
     fields.block(4, &kept.pin.0)?;
@@ -210,7 +256,8 @@ fn put_kept(fields: &mut FieldWriter, kept: &Kept) -> Result<(), proto_wire::Mem
 
 /// Writes a point as the fields 1 and 2.
 fn put_point(fields: &mut FieldWriter, point: &Point) -> Result<(), proto_wire::Memory>
-    ensures { OnOk result (fields.new ≡ fields.old ++ canonical.point_fields point.now) }
+    ensures fields { OnOk result (fields.new ≡ fields.old ++ canonical.point_fields point.now) }
+    ensures fits { OnOk result (IsHash point.now.hash) }
 {
     fields.varint(1, point.index)?;
     fields.block(2, &point.hash.0)

@@ -1,3 +1,4 @@
 pub mod Inputs
 pub mod Reading
 pub mod Checking
+pub mod Sound

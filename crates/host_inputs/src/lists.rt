@@ -1,11 +1,12 @@
 //! The inputs that list ids.
 
 ghost use Rattle.std.specs.Prelude.{◌≡◌, ◌∷◌, IfOk};
-ghost use Rattle.group_quorum.specs.Voters.{first_bad};
+ghost use Rattle.group_quorum.specs.Voters.{IsId, first_bad};
 ghost use Rattle.values.specs.Rising.{Rising};
-ghost use Rattle.host_inputs.specs.Inputs.{Begin};
+ghost use Rattle.host_inputs.specs.Inputs.{Begin, input_of};
 ghost use Rattle.host_inputs.specs.Checking.{begin_fault, each_once, if_set_up};
 ghost use Rattle.host_inputs.specs.Reading.{ReadsHost, if_parts, begin_in, learn_in};
+ghost use Rattle.host_inputs.specs.Sound.{IsSoundInput};
 
 use crate::fields::{begin_fields, learn_fields};
 use crate::input::{HostFault, HostIn};
@@ -16,7 +17,8 @@ use values::{Ids, MOST_ROWS, Memory, ReplicaId};
 
 /// A Begin, in a content of so many bytes.
 pub fn begin(alloc: Global, size: usize, rest: &[u8]) -> Result<HostIn<'_>, HostFault>
-    ensures { ReadsHost result (if_parts size (begin_in rest.now)) }
+    ensures reads { ReadsHost result (if_parts size (begin_in rest.now)) }
+    ensures sound { IfOk result (λ input. IsSoundInput (input_of input)) }
 {
     let Some((id, margin, limit, voters)) = begin_fields(rest) else {
         return Err(HostFault::Length(size as u64));
@@ -30,7 +32,8 @@ pub fn begin(alloc: Global, size: usize, rest: &[u8]) -> Result<HostIn<'_>, Host
 
 /// A Learn, in a content of so many bytes.
 pub fn learn(alloc: Global, size: usize, rest: &[u8]) -> Result<HostIn<'_>, HostFault>
-    ensures { ReadsHost result (if_parts size (learn_in rest.now)) }
+    ensures reads { ReadsHost result (if_parts size (learn_in rest.now)) }
+    ensures sound { IfOk result (λ input. IsSoundInput (input_of input)) }
 {
     let Some((id, linked)) = learn_fields(rest) else {
         return Err(HostFault::Length(size as u64));
@@ -50,8 +53,10 @@ fn set_up<'a>(
     limit: u32,
     voters: &[u32],
 ) -> Result<HostIn<'a>, HostFault>
-    ensures { ReadsHost result
+    requires { IsId id }
+    ensures reads { ReadsHost result
         (if_set_up (begin_fault id margin limit voters.now) (Begin id margin limit voters.now)) }
+    ensures sound { IfOk result (λ input. IsSoundInput (input_of input)) }
 {
     if margin > MAX_MARGIN || limit == 0 || limit > MOST_ROWS {
         return Err(HostFault::Setup(ConfigFault::TooFew(0)));
@@ -74,7 +79,8 @@ fn set_up<'a>(
 
 /// The ids in rising order, each once.
 fn each_once(alloc: Global, listed: &[u32]) -> Result<Ids, Memory>
-    ensures { IfOk result (λ ids. ids ≡ each_once listed.now) }
+    ensures once { IfOk result (λ ids. ids ≡ each_once listed.now) }
+    ensures rising { IfOk result (λ ids. Rising ids) }
 {
     let mut set = BTreeSet::new(alloc);
     for id in listed {

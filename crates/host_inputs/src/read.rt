@@ -3,6 +3,7 @@
 ghost use Rattle.std.specs.Prelude.{◌≡◌, ◌≤◌, IfOk};
 ghost use Rattle.host_inputs.specs.Inputs.{Input, Tick, Save, FitsInput, input_of, input_bytes};
 ghost use Rattle.host_inputs.specs.Checking.{checked};
+ghost use Rattle.host_inputs.specs.Sound.{IsSoundInput};
 ghost use Rattle.host_inputs.specs.Reading.{ReadsHost, if_parts, parts_in, bare_in, client_in, margin_in, number_in, input_in, IsSaid};
 
 use crate::fields::{client_fields, margin_field, number_field};
@@ -25,13 +26,16 @@ pub fn read_host(alloc: Global, content: &[u8]) -> Result<HostIn<'_>, HostFault>
         → ReadsHost result (checked listed) }
     // Which fault it is.
     ensures exact { ReadsHost result (input_in content.now) }
+    // Its numbers are in range, and its ids rise.
+    ensures sound { IfOk result (λ input. IsSoundInput (input_of input)) }
 {
     read(alloc, content)
 }
 
 #[tactic(auto, unfolding(crate::specs::Reading::parts_in))]
 fn read(alloc: Global, content: &[u8]) -> Result<HostIn<'_>, HostFault>
-    ensures { ReadsHost result (input_in content.now) }
+    ensures reads { ReadsHost result (input_in content.now) }
+    ensures sound { IfOk result (λ input. IsSoundInput (input_of input)) }
 {
     let Some((kind, rest)) = content.split_first() else {
         return Err(HostFault::Kind(0));
@@ -49,7 +53,8 @@ fn read(alloc: Global, content: &[u8]) -> Result<HostIn<'_>, HostFault>
 fn other(kind: u8, size: usize, rest: &[u8]) -> Result<HostIn<'_>, HostFault>
     requires low { 3 ≤ kind }
     requires high { kind ≤ 12 }
-    ensures { ReadsHost result (if_parts size (parts_in kind rest.now)) }
+    ensures reads { ReadsHost result (if_parts size (parts_in kind rest.now)) }
+    ensures sound { IfOk result (λ input. IsSoundInput (input_of input)) }
 {
     match kind {
         3 => tick(size, rest),
@@ -62,7 +67,8 @@ fn other(kind: u8, size: usize, rest: &[u8]) -> Result<HostIn<'_>, HostFault>
 }
 
 fn tick(size: usize, rest: &[u8]) -> Result<HostIn<'_>, HostFault>
-    ensures { ReadsHost result (if_parts size (bare_in Tick rest.now)) }
+    ensures reads { ReadsHost result (if_parts size (bare_in Tick rest.now)) }
+    ensures sound { IfOk result (λ input. IsSoundInput (input_of input)) }
 {
     match end(rest) {
         Some(()) => Ok(HostIn::Tick),
@@ -71,7 +77,8 @@ fn tick(size: usize, rest: &[u8]) -> Result<HostIn<'_>, HostFault>
 }
 
 fn save(size: usize, rest: &[u8]) -> Result<HostIn<'_>, HostFault>
-    ensures { ReadsHost result (if_parts size (bare_in Save rest.now)) }
+    ensures reads { ReadsHost result (if_parts size (bare_in Save rest.now)) }
+    ensures sound { IfOk result (λ input. IsSoundInput (input_of input)) }
 {
     match end(rest) {
         Some(()) => Ok(HostIn::Save),
@@ -80,7 +87,8 @@ fn save(size: usize, rest: &[u8]) -> Result<HostIn<'_>, HostFault>
 }
 
 fn client(size: usize, rest: &[u8]) -> Result<HostIn<'_>, HostFault>
-    ensures { ReadsHost result (if_parts size (client_in rest.now)) }
+    ensures reads { ReadsHost result (if_parts size (client_in rest.now)) }
+    ensures sound { IfOk result (λ input. IsSoundInput (input_of input)) }
 {
     match client_fields(rest) {
         Some((client, number, request)) => Ok(HostIn::Client {
@@ -93,7 +101,8 @@ fn client(size: usize, rest: &[u8]) -> Result<HostIn<'_>, HostFault>
 }
 
 fn margin(size: usize, rest: &[u8]) -> Result<HostIn<'_>, HostFault>
-    ensures { ReadsHost result (if_parts size (margin_in rest.now)) }
+    ensures reads { ReadsHost result (if_parts size (margin_in rest.now)) }
+    ensures sound { IfOk result (λ input. IsSoundInput (input_of input)) }
 {
     match margin_field(rest) {
         Some(margin) if margin > MAX_MARGIN => Err(HostFault::Setup(ConfigFault::TooFew(0))),
@@ -104,7 +113,8 @@ fn margin(size: usize, rest: &[u8]) -> Result<HostIn<'_>, HostFault>
 
 /// The inputs of one number of four bytes, which is an id but for a Roll.
 fn numbered(kind: u8, size: usize, rest: &[u8]) -> Result<HostIn<'_>, HostFault>
-    ensures { ReadsHost result (if_parts size (number_in kind rest.now)) }
+    ensures reads { ReadsHost result (if_parts size (number_in kind rest.now)) }
+    ensures sound { IfOk result (λ input. IsSoundInput (input_of input)) }
 {
     let Some(number) = number_field(rest) else {
         return Err(HostFault::Length(size as u64));

@@ -5,3 +5,5 @@ mod Marks
 mod Walks
 mod Whole
 mod Taken
+mod Loops
+mod Ranged

@@ -20,7 +20,6 @@ use Rattle.values.specs.declared.message.Answer.{Answer}
 use Rattle.values.specs.declared.peer.PeerMsg.{PeerMsg}
 use Rattle.group_msgs.specs.Canonical.{canonical_peer}
 use Rattle.group_msgs.specs.Peer.{peer_of}
-use Rattle.group_msgs.specs.Ranges.{IsInRange, FitsPeer}
 use Rattle.host_msgs.specs.declared.gathered.Gathered.{Gathered}
 use Rattle.host_msgs.specs.declared.item.Item.{Item}
 use Rattle.host_msgs.specs.declared.item.Item.TheVariants as item
@@ -29,7 +28,7 @@ use Rattle.host_msgs.specs.Wrapped.{if_ok, message_in}
 use Rattle.host_msgs.specs.Items.{long_field, word_field, is_conf, item_in}
 use Rattle.host_msgs.specs.Batches.{item_bytes, item_at, is_in_place, placed, next_in, none_yet, batch_in}
 use Rattle.host_msgs.specs.Contents.{members_content, halt_content, taken_content, commit_content, answer_content, sent_content, refused_content, once, each, batch_bytes}
-use Rattle.host_msgs.specs.Needs.{IsShort, HasBytes, IsWritable}
+use Rattle.host_msgs.specs.Needs.{IsShort, AreShort}
 use Rattle.host_msgs.specs.Grammar.{IsIndex, IsRefusal, ItemsAreReadAgain}
 use Rattle.host_msgs.specs.Again.{IsMembersItem, IsHaltItem, IsTakenItem, IsCommitItem, IsAnswerItem, IsSentItem, IsInGrammar, sender_of, IsReadAgain}
 use Rattle.host_msgs.proofs.Shorts.{short_long, short_word, short_halt, short_point, short_refusal}
@@ -131,13 +130,9 @@ frames_pushed me sent s = map-append (sent_content me) sent (s ∷ [])
 
 -- ---- the whole batch
 
--- the law of messages, as it is called
-abbrev Messages : Type 0
-Messages = (msg : PeerMsg) → IsInRange msg → FitsPeer msg → peer_of (canonical_peer msg) ≡ Ok msg
-
-message_again : Messages → (message : PeerMsg) → IsInRange message → FitsPeer message → message_in (canonical_peer message) ≡ Some message
+message_again : (message : PeerMsg) → peer_of (canonical_peer message) ≡ Ok message → message_in (canonical_peer message) ≡ Some message
 unfolding message_in
-message_again messages message is fits = ap if_ok (messages message is fits)
+message_again message again = ap if_ok again
 
 both_all : {X : Type 0} (P Q : X → Type 0) (xs : List X) → All P xs → All Q xs → All (λ x. P x × Q x) xs
 both_all P Q [] p q = All-nil (λ x. P x × Q x)
@@ -175,10 +170,10 @@ members_written : ItemsAreReadAgain → (m : ℕ × ℕ × List ℕ) → Members
 members_written items (index, margin, voters) is = record { short = is.0; again = items.members index margin voters is.1.0 is.1.1.0 is.1.1.1.0 is.1.1.1.1 }
 
 abbrev Commit : ℕ × LogEntry → Type 0
-Commit c = (HasBytes c.1.body × IsShort (commit_content c)) × IsCommitItem c
+Commit c = IsShort (commit_content c) × IsCommitItem c
 
 commit_written : ItemsAreReadAgain → (c : ℕ × LogEntry) → Commit c → IsWritten 5 (commit_content c) (item.Commit c.0 c.1)
-commit_written items (index, entry) is = record { short = is.0.1; again = items.commit index entry is.1.0 is.1.1.0 is.1.1.1 }
+commit_written items (index, entry) is = record { short = is.0; again = items.commit index entry is.1.0 is.1.1.0 is.1.1.1 }
 
 abbrev Told : ClientId × ℕ × Answer → Type 0
 Told a = IsShort (answer_content a) × IsAnswerItem a
@@ -187,18 +182,18 @@ answer_written : ItemsAreReadAgain → (a : ClientId × ℕ × Answer) → Told 
 answer_written items (client, n, said) is = record { short = is.0; again = items.answer client n said is.1.0 is.1.1.0 is.1.1.1 }
 
 abbrev Sent : (me : ℕ) → ℕ × PeerMsg → Type 0
-Sent me s = IsInRange s.1 × (IsShort (sent_content me s) × IsSentItem me s)
+Sent me s = IsShort (sent_content me s) × IsSentItem me s
 
 abbrev sent_item : (me : ℕ) → ℕ × PeerMsg → Item
 sent_item me s = item.Sent me s.0 s.1 (sent_content me s)
 
-sent_written : ItemsAreReadAgain → Messages → (me : ℕ) (s : ℕ × PeerMsg) → Sent me s → IsWritten 7 (sent_content me s) (sent_item me s)
-sent_written items messages me (to, message) is =
-    record { short = is.1.0; again = items.sent me to message is.1.1.0 is.1.1.1.0 (message_again messages message is.0 is.1.1.1.1) }
+sent_written : ItemsAreReadAgain → (me : ℕ) (s : ℕ × PeerMsg) → Sent me s → IsWritten 7 (sent_content me s) (sent_item me s)
+sent_written items me (to, message) is =
+    record { short = is.0; again = items.sent me to message is.1.0 is.1.1.0 (message_again message is.1.1.1) }
 
 -- each kind in its turn
 
-module _ (me : ℕ) (batch : Batch) (w : IsWritable me batch) (g : IsInGrammar me batch) (items : ItemsAreReadAgain) (messages : Messages) (whole : List ℕ) where
+module _ (me : ℕ) (batch : Batch) (w : AreShort me batch) (g : IsInGrammar me batch) (items : ItemsAreReadAgain) (whole : List ℕ) where
   leading : (behind : List ℕ) → Reached whole (once 1 long_field.spelled batch.lead ++ behind) 1 (made me None [] None None [] [] [] None None) → Reached whole behind 2 (made me batch.lead [] None None [] [] [] None None)
   leading behind r = at_most_one whole behind 1 long_field.spelled item.Lead (λ o. made me o [] None None [] [] [] None None) (omega arith) (λ last. refl) (λ last x. refl) batch.lead (lead_written items batch.lead g.lead) r
 
@@ -222,7 +217,7 @@ module _ (me : ℕ) (batch : Batch) (w : IsWritable me batch) (g : IsInGrammar m
       → Reached whole behind 6 (made me batch.lead batch.members batch.halt batch.taken batch.commits [] [] None None)
   committed behind r =
       one_for_each whole behind 5 commit_content (λ c. item.Commit c.0 c.1) (λ xs. made me batch.lead batch.members batch.halt batch.taken xs [] [] None None) (omega arith) (λ xs last. refl) (λ last lt. ranked 5 last refl lt)
-      Commit (λ xs x last is. refl) (commit_written items) [] batch.commits (both_all (λ c. HasBytes c.1.body × IsShort (commit_content c)) IsCommitItem batch.commits w.commits g.commits) (weaker whole _ 5 _ r)
+      Commit (λ xs x last is. refl) (commit_written items) [] batch.commits (both_all (λ c. IsShort (commit_content c)) IsCommitItem batch.commits w.commits g.commits) (weaker whole _ 5 _ r)
 
   answered : (behind : List ℕ) → Reached whole (each 6 answer_content batch.answers ++ behind) 6 (made me batch.lead batch.members batch.halt batch.taken batch.commits [] [] None None)
       → Reached whole behind 7 (made me batch.lead batch.members batch.halt batch.taken batch.commits batch.answers [] None None)
@@ -239,7 +234,7 @@ module _ (me : ℕ) (batch : Batch) (w : IsWritable me batch) (g : IsInGrammar m
   sent_out : (behind : List ℕ) → Reached whole (each 7 (sent_content me) batch.sent ++ behind) 7 (sending []) → Reached whole behind 8 (sending batch.sent)
   sent_out behind r =
       one_for_each whole behind 7 (sent_content me) (sent_item me) sending (omega arith) (λ xs last. refl) (λ last lt. ranked 7 last refl lt)
-      (Sent me) (λ xs x last is. sent_put xs x last) (sent_written items messages me) [] batch.sent (both_all (λ s. IsInRange s.1) (λ s. IsShort (sent_content me s) × IsSentItem me s) batch.sent w.messages (both_all (λ s. IsShort (sent_content me s)) (IsSentItem me) batch.sent w.sent g.sent)) (weaker whole _ 7 _ r)
+      (Sent me) (λ xs x last is. sent_put xs x last) (sent_written items me) [] batch.sent (both_all (λ s. IsShort (sent_content me s)) (IsSentItem me) batch.sent w.sent g.sent) (weaker whole _ 7 _ r)
 
   saved_one : (behind : List ℕ) → Reached whole (once 8 word_field.spelled batch.saved ++ behind) 8 (sending batch.sent)
       → Reached whole behind 9 (made me batch.lead batch.members batch.halt batch.taken batch.commits batch.answers batch.sent batch.saved None)
@@ -261,8 +256,8 @@ in_a_row a b c d e f g h i =
 read_again : (me : ℕ) (batch : Batch) (read : Result Gathered ℕ) (g : Gathered) → read ≡ Ok g → (g.batch ≡ batch) × (g.sender ≡ sender_of me batch.sent) × (g.frames ≡ map (sent_content me) batch.sent) → IsReadAgain me batch read
 read_again me batch read g e is = subst (IsReadAgain me batch) (sym e) is
 
-pub batches_again : ItemsAreReadAgain → Messages → (me : ℕ) (batch : Batch) → IsWritable me batch → IsInGrammar me batch → IsReadAgain me batch (batch_in (batch_bytes me batch))
-batches_again items messages me batch w g =
+pub batches_again : ItemsAreReadAgain → (me : ℕ) (batch : Batch) → IsInGrammar me batch → AreShort me batch → IsReadAgain me batch (batch_in (batch_bytes me batch))
+batches_again items me batch g w =
     let whole = batch_bytes me batch in
     let b9 = once 9 refused_content batch.refused ++ [] in
     let b8 = once 8 word_field.spelled batch.saved ++ b9 in
@@ -277,13 +272,13 @@ batches_again items messages me batch w g =
     in_a_row (once 1 long_field.spelled batch.lead) (each 2 members_content batch.members) (once 3 halt_content batch.halt) (once 4 taken_content batch.taken) (each 5 commit_content batch.commits)
     (each 6 answer_content batch.answers) (each 7 (sent_content me) batch.sent) (once 8 word_field.spelled batch.saved) (once 9 refused_content batch.refused) in
     let r0 : Reached whole b1 1 (made me None [] None None [] [] [] None None) = record { last = 0; below = omega arith; walked = subst (λ bytes. Walked whole bytes none_yet) row (begins whole) } in
-    let r1 = leading me batch w g items messages whole b2 r0 in
-    let r2 = configured me batch w g items messages whole b3 r1 in
-    let r3 = halted me batch w g items messages whole b4 r2 in
-    let r4 = took me batch w g items messages whole b5 r3 in
-    let r5 = committed me batch w g items messages whole b6 r4 in
-    let r6 = answered me batch w g items messages whole b7 r5 in
-    let r7 = sent_out me batch w g items messages whole b8 r6 in
-    let r8 = saved_one me batch w g items messages whole b9 r7 in
-    let r9 = refused_one me batch w g items messages whole [] r8 in
-    read_again me batch (batch_in whole) (all_of me batch w g items messages whole r9.last) (ends whole [] (all_of me batch w g items messages whole r9.last) r9.walked refl) (refl, refl, refl)
+    let r1 = leading me batch w g items whole b2 r0 in
+    let r2 = configured me batch w g items whole b3 r1 in
+    let r3 = halted me batch w g items whole b4 r2 in
+    let r4 = took me batch w g items whole b5 r3 in
+    let r5 = committed me batch w g items whole b6 r4 in
+    let r6 = answered me batch w g items whole b7 r5 in
+    let r7 = sent_out me batch w g items whole b8 r6 in
+    let r8 = saved_one me batch w g items whole b9 r7 in
+    let r9 = refused_one me batch w g items whole [] r8 in
+    read_again me batch (batch_in whole) (all_of me batch w g items whole r9.last) (ends whole [] (all_of me batch w g items whole r9.last) r9.walked refl) (refl, refl, refl)

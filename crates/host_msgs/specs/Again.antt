@@ -1,5 +1,5 @@
 -- What is read of the bytes that are written of a whole batch.
-use Rattle.std.specs.Prelude.{◌≡◌, ℕ, true, List, [], ◌∷◌, map, All, IfSome, Result}
+use Rattle.std.specs.Prelude.{◌≡◌, ℕ, true, List, [], ◌∷◌, map, All, IfSome, Result, Ok}
 use Rattle.std.specs.Result.{IsOkAnd}
 use Rattle.std.specs.Int.{w8, w32, w64}
 use Rattle.fixed_fields.specs.Formats.{IsOfWidth, AreWords}
@@ -11,7 +11,8 @@ use Rattle.values.specs.declared.entry.Point.{Point}
 use Rattle.values.specs.declared.ids.ClientId.{ClientId}
 use Rattle.values.specs.declared.message.Answer.{Answer}
 use Rattle.values.specs.declared.peer.PeerMsg.{PeerMsg}
-use Rattle.group_msgs.specs.Ranges.{FitsPeer}
+use Rattle.group_msgs.specs.Canonical.{canonical_peer}
+use Rattle.group_msgs.specs.Peer.{peer_of}
 use Rattle.host_msgs.specs.declared.gathered.Gathered.{Gathered}
 use Rattle.host_msgs.specs.Items.{is_conf}
 use Rattle.host_msgs.specs.Contents.{sent_content}
@@ -37,9 +38,9 @@ IsCommitItem (index, entry) = IsIndex index × (IsIndex entry.term × IsBody ent
 abbrev pub IsAnswerItem : ClientId × ℕ × Answer → Type 0
 IsAnswerItem (client, number, said) = IsClient client × (IsOfWidth w64 number × IsAnswer said)
 
--- a message from one replica to another
+-- a message from one replica to another, which its bytes stand for
 abbrev pub IsSentItem : (me : ℕ) → ℕ × PeerMsg → Type 0
-IsSentItem me (to, message) = (is_id me ≡ true) × ((is_id to ≡ true) × FitsPeer message)
+IsSentItem me (to, message) = (is_id me ≡ true) × ((is_id to ≡ true) × (peer_of (canonical_peer message) ≡ Ok message))
 
 -- each item of what the replica `me` leaves is one of the grammar
 pub record IsInGrammar (me : ℕ) (batch : Batch) : Type 0 where

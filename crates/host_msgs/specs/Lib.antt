@@ -9,3 +9,4 @@ pub mod Needs
 pub mod Grammar
 pub mod Again
 pub mod Listed
+pub mod Parts

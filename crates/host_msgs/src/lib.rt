@@ -17,6 +17,7 @@
 #![tactic(auto)]
 
 mod answer;
+mod bodies;
 mod commit;
 mod content;
 mod contents;
@@ -24,9 +25,11 @@ mod fault;
 mod gathered;
 mod item;
 mod laws;
+mod pieces;
 mod plain;
 mod read;
 mod refusal;
+mod replies;
 mod sent;
 mod voters;
 mod write;

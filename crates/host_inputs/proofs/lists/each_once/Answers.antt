@@ -16,8 +16,8 @@ loop-id-preserved c =
 pub rising_ids-requires : goal.rising_ids-requires
 rising_ids-requires c = subst Rising (sym c.as_slice.ensures.value) c.in_ok-ids.ensures.rising
 
-pub returns : goal.returns
-returns c =
+pub returns-clause-once : goal.returns-clause-once
+returns-clause-once c =
     let listed = c.args.listed.now in
     let all : take c.loop-id.id-index listed ≡ listed = take_all c.loop-id.id-index listed (omega arith) in
     let whole : c.as_slice.result.now ≡ each_once listed = c.as_slice.ensures.value ∙ c.in_ok-ids.ensures.items ∙ c.loop-id.invariant ∙ ap (fold (insert_key nat_cmp) []) all in

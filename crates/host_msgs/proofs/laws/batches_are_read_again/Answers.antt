@@ -2,4 +2,4 @@ use Rattle.host_msgs.proofs.Whole.{batches_again}
 use Rattle.host_msgs.proofs.laws.batches_are_read_again.Goals as goal
 
 pub returns : goal.returns
-returns c = batches_again c.items_are_read_again.ensures c.messages_are_read_again.ensures
+returns c = batches_again c.items_are_read_again.ensures
