@@ -1,5 +1,6 @@
 //! The four changes.
-ghost use Rattle.std.specs.Prelude.{◌≡◌, ◌≤◌, length};
+ghost use Rattle.std.specs.Prelude.{◌≡◌, ◌≤◌, length, IfErr};
+ghost use Rattle.values.specs.declared.limits.TheConstants.{TOP};
 ghost use Rattle.group_quorum.specs.Voters.{IsId};
 ghost use Rattle.replica_model.specs.Linked.{sha_link};
 ghost use Rattle.replica_model.specs.Replica.{Leading};
@@ -9,6 +10,7 @@ ghost use Rattle.replica_log.specs.Models.{OfEach};
 ghost use Rattle.member_rules.specs.Faults.{join_of, admit_of, remove_of, margin_of};
 ghost use Rattle.member_rules.specs.Refusals.{Refuses, RefusesOr};
 ghost use Rattle.member_rules.specs.Standings.{standing_of};
+ghost use Rattle.member_rules.specs.InRange.{IsFaultInRange};
 
 use crate::fault::MemberFault;
 use crate::standing::Standing;
@@ -22,6 +24,7 @@ pub fn join(log: &Log, id: ReplicaId, linked: bool, learners: u32) -> Result<(),
     ensures faults { result ≡ join_of (standing_of log.now) id linked learners }
     ensures model { OfEach sha_link log.now (λ s. (l : Leading) → length l.learners ≡ learners
         → Refuses result (join_refusal s l id linked)) }
+    ensures range { IfErr result IsFaultInRange }
 {
     Standing::of(log).join(id, linked, learners)
 }
@@ -36,6 +39,7 @@ pub fn admit(log: &Log, id: ReplicaId, mark: u64) -> Result<Config, MemberFault>
     ensures faults { result ≡ admit_of (standing_of log.now) id mark }
     ensures model { OfEach sha_link log.now (λ s. (l : Leading) → learner_mark l id ≡ mark
         → RefusesOr result (admit_refusal s l id) (with_voter (newest s) id)) }
+    ensures range { mark ≤ TOP → IfErr result IsFaultInRange }
 {
     Standing::of(log).admit(id, mark)
 }
@@ -46,6 +50,7 @@ pub fn admit(log: &Log, id: ReplicaId, mark: u64) -> Result<Config, MemberFault>
 pub fn remove(log: &Log, id: ReplicaId) -> Result<Config, MemberFault>
     ensures faults { result ≡ remove_of (standing_of log.now) id }
     ensures model { OfEach sha_link log.now (λ s. RefusesOr result (remove_refusal s id) (without_voter (newest s) id)) }
+    ensures range { IfErr result IsFaultInRange }
 {
     Standing::of(log).remove(id)
 }
@@ -58,6 +63,7 @@ pub fn set_margin(log: &Log, margin: u8) -> Result<Config, MemberFault>
     ensures faults { result ≡ margin_of (standing_of log.now) margin }
     ensures model { OfEach sha_link log.now (λ s.
         RefusesOr result (margin_refusal s margin) (record (newest s) { margin = margin })) }
+    ensures range { IfErr result IsFaultInRange }
 {
     Standing::of(log).set_margin(margin)
 }

@@ -23,11 +23,13 @@ impl Standing {
     ghost use Rattle.replica_log.specs.Models.{OfEach};
     ghost use Rattle.member_rules.specs.Faults.{is_open, join_of, admit_of, remove_of, margin_of};
     ghost use Rattle.member_rules.specs.Standings.{standing_of, standing_in};
+    ghost use Rattle.member_rules.specs.InRange.{IsStandingInRange};
 
     /// That of a log.
     pub fn of(log: &Log) -> Standing
         ensures window { result ≡ standing_of log.now }
         ensures model { OfEach sha_link log.now (λ s. result ≡ standing_in s) }
+        ensures range { IsStandingInRange result }
     {
         let last = log.last().index;
         let configs = log.configs_to(last);

@@ -12,9 +12,9 @@ use Rattle.values.specs.declared.ids.ClientId.{ClientId}
 use Rattle.values.specs.declared.message.Answer.{Answer}
 use Rattle.values.specs.declared.message.Answer.TheVariants.{Outcome}
 use Rattle.values.specs.declared.message.Reply.{Reply}
-use Rattle.record_table.specs.Table.{RecordTable, empty_table}
-use Rattle.record_table.specs.Rules.{apply}
-use Rattle.record_table.specs.Places.{ClientAsk, Places, fold_places, apply_place, reply_at}
+use Rattle.record_rules.specs.Table.{RecordTable, empty_table}
+use Rattle.record_rules.specs.Rules.{apply}
+use Rattle.record_rules.specs.Places.{ClientAsk, Places, fold_places, apply_place, reply_at}
 use Rattle.replica_model.specs.Path.{Path}
 use Rattle.replica_model.specs.Folds.{place_of, places_of, fold_of, reply_of}
 use Rattle.replica_model.specs.Replica as model

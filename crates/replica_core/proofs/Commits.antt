@@ -4,7 +4,7 @@ use Rattle.std.proofs.lemmas.Bool.{cases_lt, lt-ltb}
 use Rattle.std.proofs.lemmas.List.{drop-take, drop-drop, take-take, length-take-le, length-take, nil_from_length}
 use Rattle.values.specs.declared.batch.Batch.{Batch}
 use Rattle.values.specs.declared.entry.LogEntry.{LogEntry}
-use Rattle.record_table.specs.Table.{RecordTable}
+use Rattle.record_rules.specs.Table.{RecordTable}
 use Rattle.replica_model.specs.Path.{Path}
 use Rattle.replica_model.specs.Linked.{sha_link}
 use Rattle.replica_model.specs.Folds.{fold_of}

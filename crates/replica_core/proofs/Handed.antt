@@ -31,7 +31,7 @@ use Rattle.proto_wire.specs.Fields.{Field, sequence_at}
 use Rattle.proto_wire.specs.Reading.{last_member, first_fault}
 use Rattle.group_quorum.specs.Voters.{IsId, IsSound, is_in}
 use Rattle.group_msgs.specs.Ranges.{IsIndex, IsBodyInRange, IsEntryInRange, IsPartInRange}
-use Rattle.record_table.specs.Table.{RecordTable}
+use Rattle.record_rules.specs.Table.{RecordTable}
 use Rattle.replica_model.specs.declared.TheConstants.{MAX_OPEN}
 use Rattle.replica_model.specs.Clients.{offset_of}
 use Rattle.replica_model.specs.Keyed.{value_at}
@@ -53,7 +53,8 @@ use Rattle.replica_core.specs.InRange.{IsSendingInRange, IsLeadingInRange, IsHol
 use Rattle.replica_core.specs.Keeping.{progress_in, leads_now}
 use Rattle.replica_core.specs.Leads.{with_progress_in, without_sending, with_learner}
 use Rattle.replica_core.specs.Learning.{holder_at, expecting, unled}
-use Rattle.replica_core.specs.Ranges.{IsAnswerInRange, IsBatchInRange}
+use Rattle.group_msgs.specs.Batches.{IsAnswerInRange}
+use Rattle.replica_core.specs.Ranges.{IsStepBatch}
 use Rattle.replica_core.proofs.Changes.{kept-is}
 use Rattle.replica_core.proofs.Listed.{all-put}
 use Rattle.replica_core.proofs.Ranged.{sent-in, answered-in, term_from-in, upto-in, conf_at-in, value-in, with_id-ids, others-ids}
@@ -88,19 +89,22 @@ other-in p part point next h =
     (λ t is. absurd (let e : Whole (table_of (with_part p part)) ≡ Other point next = is in cc)) (λ f is. absurd (let e : Taken (part.part + 1) ≡ Other point next = is in cc)))
     (λ f is. let same : expected_point p ≡ point = cc in subst (λ (x : Point). IsIndex x.index) same (expected-in p h))
 
-pub expecting-in : (b : Batch) (to term : ℕ) (point : Point) (next : ℕ) → IsBatchInRange b → IsId to → IsIndex term → IsIndex point.index → IsBatchInRange (expecting b to term point next)
+pub expecting-in : (b : Batch) (to term : ℕ) (point : Point) (next : ℕ) → IsStepBatch b → IsId to → IsIndex term → IsIndex point.index → IsStepBatch (expecting b to term point next)
 expecting-in b to term point next h id in_term in_point = sent-in b h to (PartTaken term point next) id (in_term, in_point)
 
-pub taken-told-in : (b : Batch) (point : Point) → IsBatchInRange b → IsIndex point.index → IsBatchInRange (record b { taken = Some point })
+pub taken-told-in : (b : Batch) (point : Point) → IsStepBatch b → IsIndex point.index → IsStepBatch (record b { taken = Some point })
 taken-told-in b point h index =
     record {
-      lead = h.lead;
-      members = h.members;
-      halt = h.halt;
-      taken = index;
-      commits = h.commits;
-      answers = h.answers;
-      sent = h.sent;
+      ranged = record {
+        lead = h.ranged.lead;
+        members = h.ranged.members;
+        halt = h.ranged.halt;
+        taken = index;
+        commits = h.ranged.commits;
+        answers = h.ranged.answers;
+        sent = h.ranged.sent;
+        refused = h.ranged.refused;
+      };
       saved = h.saved;
     }
 
@@ -118,23 +122,23 @@ holder_at-in l from part table h id ranged =
 
 -- ---- how an ask is read
 
-fault-in : (b : Batch) (client : ClientId) (number : ℕ) (fault : RequestFault) → IsBatchInRange b → IsBatchInRange (fault_answered b client number fault)
+fault-in : (b : Batch) (client : ClientId) (number : ℕ) (fault : RequestFault) → IsStepBatch b → IsStepBatch (fault_answered b client number fault)
 fault-in b client number faults.Memory h = h
 fault-in b client number (faults.Wire fault) h = answered-in b h client number (Malformed (offset_of fault)) tt
 fault-in b client number faults.Nothing h = answered-in b h client number (Invalid Nothing 0) tt
 fault-in b client number (faults.Size part size) h = answered-in b h client number (Invalid part size) tt
 
-pub unled-in : (b : Batch) (client : ClientId) (number : ℕ) (r : Result Request RequestFault) → IsBatchInRange b → IsBatchInRange (unled b client number r)
+pub unled-in : (b : Batch) (client : ClientId) (number : ℕ) (r : Result Request RequestFault) → IsStepBatch b → IsStepBatch (unled b client number r)
 unled-in b client number (Ok request) h = answered-in b h client number (NotLeader 0) (omega arith)
 unled-in b client number (Err fault) h = fault-in b client number fault h
 
-read_as-in : (b : Batch) (client : ClientId) (number : ℕ) (r : Result Request RequestFault) → IsBatchInRange b → IsBatchInRange (read_as b client number r).1
+read_as-in : (b : Batch) (client : ClientId) (number : ℕ) (r : Result Request RequestFault) → IsStepBatch b → IsStepBatch (read_as b client number r).1
 read_as-in b client number (Ok request) h = h
 read_as-in b client number (Err fault) h = fault-in b client number fault h
 
 pub read-in : (b b' : Batch) (client : ClientId) (number : ℕ) (r : Result Request RequestFault) (found : Option Request) → (found, b') ≡ read_as b client number r
-    → IsBatchInRange b → IsBatchInRange b'
-read-in b b' client number r found is h = subst IsBatchInRange (sym (ap (λ (x : Option Request × Batch). x.1) is)) (read_as-in b client number r h)
+    → IsStepBatch b → IsStepBatch b'
+read-in b b' client number r found is h = subst IsStepBatch (sym (ap (λ (x : Option Request × Batch). x.1) is)) (read_as-in b client number r h)
 
 -- why it is not taken
 pub refusal-in : (h : Holder) (answer : Answer) → IsHolderInRange h → refusal_of h ≡ Some answer → IsAnswerInRange answer

@@ -31,7 +31,8 @@ use Rattle.replica_core.specs.declared.role.Role.TheVariants as kept
 use Rattle.replica_core.specs.declared.tickets.Ticket.{Ticket}
 use Rattle.replica_core.specs.declared.holder.Holder.{Holder}
 use Rattle.replica_core.specs.InRange.{IsHolderInRange}
-use Rattle.replica_core.specs.Ranges.{IsAnswerInRange, IsBatchInRange}
+use Rattle.group_msgs.specs.Batches.{IsAnswerInRange}
+use Rattle.replica_core.specs.Ranges.{IsStepBatch}
 use Rattle.replica_core.specs.Replacing.{kept_upto, members_above, tickets_left, given_up, reply_to}
 use Rattle.replica_core.proofs.Bounds.{differs-within, hash-within}
 use Rattle.replica_core.proofs.Ranged.{all-sent-in, all-answered-in, all-members-in, sent-in}
@@ -161,9 +162,9 @@ module _ (h : Holder) (ranged : IsHolderInRange h) (w : Window) (took : Took) (b
       }
 
   -- what it tells before entries are applied
-  pub told-in : (b : Batch) → IsBatchInRange b → IsOrdered w → kept_upto (last_index h.log) took.cut ≤ last_index w
+  pub told-in : (b : Batch) → IsStepBatch b → IsOrdered w → kept_upto (last_index h.log) took.cut ≤ last_index w
       → base_index w ≤ kept_upto (last_index h.log) took.cut
-      → IsBatchInRange (record b { members = b.members ++ members_above w (kept_upto (last_index h.log) took.cut); answers = b.answers ++ given_up took.cut h.tickets })
+      → IsStepBatch (record b { members = b.members ++ members_above w (kept_upto (last_index h.log) took.cut); answers = b.answers ++ given_up took.cut h.tickets })
   told-in b in_range ow within above =
       let k : ℕ = kept_upto (last_index h.log) took.cut in
       let ms : List (ℕ × ℕ × List ℕ) = members_above w k in
@@ -175,9 +176,9 @@ module _ (h : Holder) (ranged : IsHolderInRange h) (w : Window) (took : Took) (b
       (given_up took.cut h.tickets) (given-in took.cut h.tickets brings.cut)
 
   -- and the reply
-  pub replied-in : (b : Batch) (from : ℕ) → IsId from → IsBatchInRange b → IsBatchInRange (record b { sent = b.sent ++ reply_to from took.reply })
+  pub replied-in : (b : Batch) (from : ℕ) → IsId from → IsStepBatch b → IsStepBatch (record b { sent = b.sent ++ reply_to from took.reply })
   replied-in b from id in_range = by took.reply brings.reply
     where
-      by : (r : Option PeerMsg) → IfSome r IsInRange → IsBatchInRange (record b { sent = b.sent ++ reply_to from r })
+      by : (r : Option PeerMsg) → IfSome r IsInRange → IsStepBatch (record b { sent = b.sent ++ reply_to from r })
       by None none = all-sent-in b in_range [] (All-nil (λ (m : ℕ × PeerMsg). IsId m.0 × IsInRange m.1))
       by (Some msg) one = sent-in b in_range from msg id one

@@ -16,7 +16,7 @@ use Rattle.client_msgs.specs.Reading.{request_of}
 use Rattle.values.specs.declared.peer.PeerMsg.{PeerMsg}
 use Rattle.values.specs.declared.peer.PeerMsg.TheVariants.{AskVote, Vote, Append, Accepted, Rejected, Part, PartTaken}
 use Rattle.values.specs.declared.peer.TablePart.{TablePart}
-use Rattle.record_table.specs.Table.{RecordTable}
+use Rattle.record_rules.specs.Table.{RecordTable}
 use Rattle.replica_model.specs.declared.TheConstants.{KEPT_BELOW}
 use Rattle.replica_model.specs.Folds.{fold_of}
 use Rattle.replica_model.specs.Linked.{sha_link}

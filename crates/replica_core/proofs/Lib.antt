@@ -32,3 +32,4 @@ mod Ranged
 mod Replies
 mod Steps
 mod Handed
+mod Refused

@@ -11,7 +11,6 @@ use Rattle.values.specs.declared.entry.LogEntry.{LogEntry}
 use Rattle.values.specs.declared.ids.ClientId.{ClientId}
 use Rattle.values.specs.declared.message.Answer.{Answer}
 use Rattle.values.specs.declared.peer.PeerMsg.{PeerMsg}
-use Rattle.values.specs.declared.batch.Refusal.{Refusal}
 use Rattle.group_quorum.specs.declared.TheConstants.{MAX_ID}
 use Rattle.vote_rules.specs.declared.ballot.Ballot.{Ballot}
 use Rattle.vote_rules.specs.declared.votes.Votes.{Votes}
@@ -21,8 +20,8 @@ use Rattle.values.specs.declared.peer.TablePart.{TablePart}
 use Rattle.values.specs.declared.row.Kept.{Kept}
 use Rattle.values.specs.declared.limits.TheConstants.{MAX_ENTRIES, MAX_PARTS, ROWS_PER_PART}
 use Rattle.group_msgs.specs.Ranges.{IsIndex, IsBodyInRange, IsEntryInRange, IsKeptInRange, IsRowInRange, IsAppendInRange, IsPartInRange, IsInRange}
-use Rattle.record_table.specs.Table.{RecordTable}
-use Rattle.record_table.specs.Valid.{IsValidRecord, IsValidRow}
+use Rattle.record_rules.specs.Table.{RecordTable}
+use Rattle.record_rules.specs.Valid.{IsValidRecord, IsValidRow}
 use Rattle.replica_model.specs.Keyed.{value_at}
 use Rattle.replica_model.specs.Linked.{sha_link}
 use Rattle.replica_log.specs.Grafting.{point_at}
@@ -41,88 +40,104 @@ use Rattle.replica_core.specs.declared.role.Role.TheVariants as kept
 use Rattle.replica_core.specs.declared.role.Leading.{Leading}
 use Rattle.replica_core.specs.Keeping.{is_pending_at, counted_at, others_counted, peers_at, learners_in, progress_in}
 use Rattle.replica_core.specs.Leads.{can_append_at, after_sent, with_progress_in}
-use Rattle.replica_core.specs.Ranges.{IsAnswerInRange, IsBatchInRange}
+use Rattle.group_msgs.specs.Batches.{IsAnswerInRange}
+use Rattle.replica_core.specs.Ranges.{IsStepBatch}
 use Rattle.replica_core.specs.InRange.{IsSendingInRange, IsHolderInRange, IsRoleInRange, IsLeadingInRange}
 use Rattle.replica_core.proofs.Listed.{find-here, find-later}
 
 -- nothing was told yet
-pub empty-in : IsBatchInRange empty_batch
+pub empty-in : IsStepBatch empty_batch
 empty-in =
     record {
-      lead = tt;
-      members = All-nil (λ (m : ℕ × ℕ × List ℕ). IsIndex m.0 × IsSoundConf (record { margin = m.1; voters = m.2 }));
-      halt = tt;
-      taken = tt;
-      commits = All-nil (λ (c : ℕ × LogEntry). IsIndex c.0 × IsEntryInRange c.1);
-      answers = All-nil (λ (a : ClientId × ℕ × Answer). IsAnswerInRange a.2);
-      sent = All-nil (λ (m : ℕ × PeerMsg). IsId m.0 × IsInRange m.1);
+      ranged = record {
+        lead = tt;
+        members = All-nil (λ (m : ℕ × ℕ × List ℕ). IsIndex m.0 × IsSoundConf (record { margin = m.1; voters = m.2 }));
+        halt = tt;
+        taken = tt;
+        commits = All-nil (λ (c : ℕ × LogEntry). IsIndex c.0 × IsEntryInRange c.1);
+        answers = All-nil (λ (a : ClientId × ℕ × Answer). IsAnswerInRange a.2);
+        sent = All-nil (λ (m : ℕ × PeerMsg). IsId m.0 × IsInRange m.1);
+        refused = tt;
+      };
       saved = refl;
     }
 
-module _ (b : Batch) (h : IsBatchInRange b) where
+module _ (b : Batch) (h : IsStepBatch b) where
   -- more messages
-  pub all-sent-in : (ms : List (ℕ × PeerMsg)) → All (λ (m : ℕ × PeerMsg). IsId m.0 × IsInRange m.1) ms → IsBatchInRange (record b { sent = b.sent ++ ms })
+  pub all-sent-in : (ms : List (ℕ × PeerMsg)) → All (λ (m : ℕ × PeerMsg). IsId m.0 × IsInRange m.1) ms → IsStepBatch (record b { sent = b.sent ++ ms })
   all-sent-in ms all =
       record {
-        lead = h.lead;
-        members = h.members;
-        halt = h.halt;
-        taken = h.taken;
-        commits = h.commits;
-        answers = h.answers;
-        sent = All-append (λ (m : ℕ × PeerMsg). IsId m.0 × IsInRange m.1) b.sent ms h.sent all;
+        ranged = record {
+          lead = h.ranged.lead;
+          members = h.ranged.members;
+          halt = h.ranged.halt;
+          taken = h.ranged.taken;
+          commits = h.ranged.commits;
+          answers = h.ranged.answers;
+          sent = All-append (λ (m : ℕ × PeerMsg). IsId m.0 × IsInRange m.1) b.sent ms h.ranged.sent all;
+          refused = h.ranged.refused;
+        };
         saved = h.saved;
       }
 
-  pub sent-in : (v : ℕ) (msg : PeerMsg) → IsId v → IsInRange msg → IsBatchInRange (record b { sent = b.sent ++ (v, msg) ∷ [] })
+  pub sent-in : (v : ℕ) (msg : PeerMsg) → IsId v → IsInRange msg → IsStepBatch (record b { sent = b.sent ++ (v, msg) ∷ [] })
   sent-in v msg id ranged =
       all-sent-in ((v, msg) ∷ []) (All-cons (λ (m : ℕ × PeerMsg). IsId m.0 × IsInRange m.1) (v, msg) [] (id, ranged) (All-nil (λ (m : ℕ × PeerMsg). IsId m.0 × IsInRange m.1)))
 
   -- more answers
-  pub all-answered-in : (xs : List (ClientId × ℕ × Answer)) → All (λ (a : ClientId × ℕ × Answer). IsAnswerInRange a.2) xs → IsBatchInRange (record b { answers = b.answers ++ xs })
+  pub all-answered-in : (xs : List (ClientId × ℕ × Answer)) → All (λ (a : ClientId × ℕ × Answer). IsAnswerInRange a.2) xs → IsStepBatch (record b { answers = b.answers ++ xs })
   all-answered-in xs all =
       record {
-        lead = h.lead;
-        members = h.members;
-        halt = h.halt;
-        taken = h.taken;
-        commits = h.commits;
-        answers = All-append (λ (a : ClientId × ℕ × Answer). IsAnswerInRange a.2) b.answers xs h.answers all;
-        sent = h.sent;
+        ranged = record {
+          lead = h.ranged.lead;
+          members = h.ranged.members;
+          halt = h.ranged.halt;
+          taken = h.ranged.taken;
+          commits = h.ranged.commits;
+          answers = All-append (λ (a : ClientId × ℕ × Answer). IsAnswerInRange a.2) b.answers xs h.ranged.answers all;
+          sent = h.ranged.sent;
+          refused = h.ranged.refused;
+        };
         saved = h.saved;
       }
 
-  pub answered-in : (client : ClientId) (number : ℕ) (answer : Answer) → IsAnswerInRange answer → IsBatchInRange (record b { answers = b.answers ++ (client, number, answer) ∷ [] })
+  pub answered-in : (client : ClientId) (number : ℕ) (answer : Answer) → IsAnswerInRange answer → IsStepBatch (record b { answers = b.answers ++ (client, number, answer) ∷ [] })
   answered-in client number answer ranged =
       all-answered-in ((client, number, answer) ∷ [])
       (All-cons (λ (a : ClientId × ℕ × Answer). IsAnswerInRange a.2) (client, number, answer) [] ranged (All-nil (λ (a : ClientId × ℕ × Answer). IsAnswerInRange a.2)))
 
   -- more configurations
   pub all-members-in : (ms : List (ℕ × ℕ × List ℕ)) → All (λ (m : ℕ × ℕ × List ℕ). IsIndex m.0 × IsSoundConf (record { margin = m.1; voters = m.2 })) ms
-      → IsBatchInRange (record b { members = b.members ++ ms })
+      → IsStepBatch (record b { members = b.members ++ ms })
   all-members-in ms all =
       record {
-        lead = h.lead;
-        members = All-append (λ (m : ℕ × ℕ × List ℕ). IsIndex m.0 × IsSoundConf (record { margin = m.1; voters = m.2 })) b.members ms h.members all;
-        halt = h.halt;
-        taken = h.taken;
-        commits = h.commits;
-        answers = h.answers;
-        sent = h.sent;
+        ranged = record {
+          lead = h.ranged.lead;
+          members = All-append (λ (m : ℕ × ℕ × List ℕ). IsIndex m.0 × IsSoundConf (record { margin = m.1; voters = m.2 })) b.members ms h.ranged.members all;
+          halt = h.ranged.halt;
+          taken = h.ranged.taken;
+          commits = h.ranged.commits;
+          answers = h.ranged.answers;
+          sent = h.ranged.sent;
+          refused = h.ranged.refused;
+        };
         saved = h.saved;
       }
 
   -- more committed entries
-  pub all-commits-in : (cs : List (ℕ × LogEntry)) → All (λ (c : ℕ × LogEntry). IsIndex c.0 × IsEntryInRange c.1) cs → IsBatchInRange (record b { commits = b.commits ++ cs })
+  pub all-commits-in : (cs : List (ℕ × LogEntry)) → All (λ (c : ℕ × LogEntry). IsIndex c.0 × IsEntryInRange c.1) cs → IsStepBatch (record b { commits = b.commits ++ cs })
   all-commits-in cs all =
       record {
-        lead = h.lead;
-        members = h.members;
-        halt = h.halt;
-        taken = h.taken;
-        commits = All-append (λ (c : ℕ × LogEntry). IsIndex c.0 × IsEntryInRange c.1) b.commits cs h.commits all;
-        answers = h.answers;
-        sent = h.sent;
+        ranged = record {
+          lead = h.ranged.lead;
+          members = h.ranged.members;
+          halt = h.ranged.halt;
+          taken = h.ranged.taken;
+          commits = All-append (λ (c : ℕ × LogEntry). IsIndex c.0 × IsEntryInRange c.1) b.commits cs h.ranged.commits all;
+          answers = h.ranged.answers;
+          sent = h.ranged.sent;
+          refused = h.ranged.refused;
+        };
         saved = h.saved;
       }
 
@@ -370,16 +385,19 @@ dropped-in h i ranged =
     }
 
 -- a new leader tells its term
-pub lead-in : (b : Batch) (term : ℕ) → IsBatchInRange b → IsIndex term → IsBatchInRange (record b { lead = Some term })
+pub lead-in : (b : Batch) (term : ℕ) → IsStepBatch b → IsIndex term → IsStepBatch (record b { lead = Some term })
 lead-in b term h le =
     record {
-      lead = le;
-      members = h.members;
-      halt = h.halt;
-      taken = h.taken;
-      commits = h.commits;
-      answers = h.answers;
-      sent = h.sent;
+      ranged = record {
+        lead = le;
+        members = h.ranged.members;
+        halt = h.ranged.halt;
+        taken = h.ranged.taken;
+        commits = h.ranged.commits;
+        answers = h.ranged.answers;
+        sent = h.ranged.sent;
+        refused = h.ranged.refused;
+      };
       saved = h.saved;
     }
 
@@ -388,20 +406,6 @@ pub sent-led-in : (l : Leading) (w : Window) (v : ℕ) → IsLeadingInRange l �
 sent-led-in l w v h =
     cond_both (can_append_at l w v) (with_progress_in l v (after_append w (progress_in l.progress v))) l IsLeadingInRange
     (λ t. record { learners = h.learners; sendings = h.sendings }) (λ f. h)
-
--- what is refused leaves a batch as it was
-pub refused-in : (b : Batch) (refusal : Refusal) → IsBatchInRange b → IsBatchInRange (record b { refused = Some refusal })
-refused-in b refusal h =
-    record {
-      lead = h.lead;
-      members = h.members;
-      halt = h.halt;
-      taken = h.taken;
-      commits = h.commits;
-      answers = h.answers;
-      sent = h.sent;
-      saved = h.saved;
-    }
 
 -- another table, and other tickets
 pub table-in : (h : Holder) (table : RecordTable) (tickets : List Ticket) → IsHolderInRange h → IsHolderInRange (record h { table = table; tickets = tickets })

@@ -12,12 +12,12 @@ use Rattle.values.specs.declared.message.Response.{Response}
 use Rattle.values.specs.declared.message.Response.TheVariants.{Restore as Restored, Expose as Exposed}
 use Rattle.values.specs.declared.row.Kept.{Kept}
 use Rattle.values.specs.declared.row.Row.{Row}
-use Rattle.record_table.specs.declared.status.TheConstants.{OK, MISSING, ERROR}
-use Rattle.record_table.specs.Clients.{client_eq}
-use Rattle.record_table.specs.Table.{RecordTable, row_of}
-use Rattle.record_table.specs.Valid.{IsValidRecord, IsValidRow, IsSound}
-use Rattle.record_table.specs.Rules.{act, after_guess, after_wrong_guess, after_acting, ask_unknown, apply_by, apply}
-use Rattle.replica_core.specs.Ranges.{IsResponseInRange, IsReplyInRange}
+use Rattle.record_rules.specs.declared.status.TheConstants.{OK, MISSING, ERROR}
+use Rattle.record_rules.specs.Clients.{client_eq}
+use Rattle.record_rules.specs.Table.{RecordTable, row_of}
+use Rattle.record_rules.specs.Valid.{IsValidRecord, IsValidRow, IsSound}
+use Rattle.record_rules.specs.Rules.{act, after_guess, after_wrong_guess, after_acting, ask_unknown, apply_by, apply}
+use Rattle.group_msgs.specs.Batches.{IsResponseInRange, IsReplyInRange}
 
 -- what a request that acts gives
 response-in : (request : Request) (k : Option Kept) → IfSome k IsValidRecord → IsResponseInRange (act request k).1

@@ -7,9 +7,9 @@ use Rattle.values.specs.declared.ids.ClientId.{ClientId}
 use Rattle.values.specs.declared.message.Answer.{Answer}
 use Rattle.values.specs.declared.message.Answer.TheVariants.{Outcome}
 use Rattle.values.specs.declared.message.Reply.{Reply}
-use Rattle.record_table.specs.Table.{RecordTable}
-use Rattle.record_table.specs.Rules.{apply}
-use Rattle.record_table.specs.Places.{ClientAsk, apply_place}
+use Rattle.record_rules.specs.Table.{RecordTable}
+use Rattle.record_rules.specs.Rules.{apply}
+use Rattle.record_rules.specs.Places.{ClientAsk, apply_place}
 use Rattle.replica_model.specs.Path.{Path}
 use Rattle.replica_model.specs.Folds.{place_of}
 use Rattle.replica_model.specs.Raise.{numbered_from}

@@ -17,7 +17,7 @@ use Rattle.replica_core.specs.declared.holder.Holder.{Holder}
 use Rattle.replica_core.specs.declared.learner.Learner.{Learner}
 use Rattle.replica_core.specs.declared.replica.State.{State}
 use Rattle.replica_core.specs.declared.replica.State.TheVariants as state
-use Rattle.replica_core.specs.Ranges.{IsBatchInRange}
+use Rattle.replica_core.specs.Ranges.{IsStepBatch}
 
 -- what is told with each part of a table that is being sent
 pub record IsSendingInRange (k : SentTable) : Type 0 where
@@ -58,7 +58,7 @@ IsStateInRange (state.Holder h) = IsHolderInRange h
 -- where a replica and a batch are in range, they are so after a call
 abbrev pub KeepsRange : {T : Type 0} → Holder → Batch → Result T Memory → Holder → Batch → Type 0
 KeepsRange before batch result after batch' =
-    IsHolderInRange before → IsBatchInRange batch → OnOk result (IsHolderInRange after × IsBatchInRange batch')
+    IsHolderInRange before → IsStepBatch batch → OnOk result (IsHolderInRange after × IsStepBatch batch')
 
 -- who alone is to be sent an append has an id
 abbrev pub IsForId : Appends → Type 0
@@ -69,4 +69,4 @@ IsForId Everyone = Unit {0}
 -- the same of a call that says who is to be sent an append
 abbrev pub ActsInRange : Holder → Batch → Result Appends Memory → Holder → Batch → Type 0
 ActsInRange before batch result after batch' =
-    IsHolderInRange before → IsBatchInRange batch → IfOk result (λ to. IsHolderInRange after × (IsBatchInRange batch' × IsForId to))
+    IsHolderInRange before → IsStepBatch batch → IfOk result (λ to. IsHolderInRange after × (IsStepBatch batch' × IsForId to))

@@ -8,7 +8,7 @@ use Rattle.values.specs.declared.message.Request.{Request}
 use Rattle.values.specs.declared.peer.PeerMsg.TheVariants.{PartTaken}
 use Rattle.values.specs.declared.peer.TablePart.{TablePart}
 use Rattle.client_msgs.specs.declared.fault.RequestFault.{RequestFault}
-use Rattle.record_table.specs.Table.{RecordTable}
+use Rattle.record_rules.specs.Table.{RecordTable}
 use Rattle.replica_model.specs.Call.{Call}
 use Rattle.replica_log.specs.Window.{Summary, window_at, term_of_point}
 use Rattle.replica_core.specs.declared.role.Role.TheVariants.{Follower}

@@ -77,3 +77,9 @@ abbrev pub IsSpent : State → Type 0
 IsSpent state.Spent = Unit {0}
 IsSpent (state.Learner l) = ⊥
 IsSpent (state.Holder h) = ⊥
+
+-- it holds a log
+abbrev pub HoldsLog : State → Type 0
+HoldsLog state.Spent = ⊥
+HoldsLog (state.Learner l) = ⊥
+HoldsLog (state.Holder h) = Unit {0}

@@ -18,7 +18,7 @@ ghost use Rattle.replica_core.specs.Inputs.{IsInput, IsInputInRange};
 ghost use Rattle.replica_core.specs.Keeping.{IsSound};
 ghost use Rattle.replica_core.specs.Learning.{summary_in, holder_at, expecting, unled, LearnsOrHolds};
 ghost use Rattle.replica_core.specs.Standing.{LearnsFor};
-ghost use Rattle.replica_core.specs.Ranges.{IsBatchInRange};
+ghost use Rattle.replica_core.specs.Ranges.{IsStepBatch};
 ghost use Rattle.replica_core.specs.InRange.{IsLearnerInRange, IsHolderInRange};
 
 use crate::clients::{Ask, read_ask};
@@ -53,8 +53,8 @@ impl Learner {
         ensures holder { IfOk result (λ found. IfSome found IsSound) }
         ensures model { (s : model.Replica) (i : told.Input) → LearnsFor self.old s → IsInput s input.now i
             → IfOk result (λ found. LearnsOrHolds self.new found batch.new (step sha_link s i)) }
-        ensures in_range { IsLearnerInRange self.old → IsBatchInRange batch.old
-            → IfOk result (λ found. IsLearnerInRange self.new × (IfSome found IsHolderInRange × IsBatchInRange batch.new)) }
+        ensures in_range { IsLearnerInRange self.old → IsStepBatch batch.old
+            → IfOk result (λ found. IsLearnerInRange self.new × (IfSome found IsHolderInRange × IsStepBatch batch.new)) }
     {
         match input {
             Input::Tick => Ok(None),
@@ -117,8 +117,8 @@ impl Learner {
             → TakesPartsOf sha_link self.old.taking taking → IsTruePart sha_link part.now names → GoesOn sha_link taking part.now names
             → IfOk result (λ found. LearnsOrHolds self.new found batch.new
             (told_of (with_end sha_link (learner_hears sha_link s taking from names (Part term part.now))))) }
-        ensures in_range { IsId from → IsLearnerInRange self.old → IsBatchInRange batch.old
-            → IfOk result (λ found. IsLearnerInRange self.new × (IfSome found IsHolderInRange × IsBatchInRange batch.new)) }
+        ensures in_range { IsId from → IsLearnerInRange self.old → IsStepBatch batch.old
+            → IfOk result (λ found. IsLearnerInRange self.new × (IfSome found IsHolderInRange × IsStepBatch batch.new)) }
     {
         self.term = self.term.max(term);
         match self.taking.take_part(part)? {

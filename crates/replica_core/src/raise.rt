@@ -2,7 +2,7 @@
 ghost use Rattle.std.specs.Prelude.{◌≡◌, ◌≤◌, ◌<◌, ◌++◌, IfOk, OnOk, IfSome};
 ghost use Rattle.values.specs.declared.limits.TheConstants.{TOP};
 ghost use Rattle.group_msgs.specs.Ranges.{IsIndex};
-ghost use Rattle.record_table.specs.Places.{apply_place};
+ghost use Rattle.record_rules.specs.Places.{apply_place};
 ghost use Rattle.replica_model.specs.Folds.{place_of};
 ghost use Rattle.replica_model.specs.Replica as model;
 ghost use Rattle.replica_model.specs.Call.{Call};
@@ -12,7 +12,8 @@ ghost use Rattle.replica_core.specs.Keeping.{IsSound};
 ghost use Rattle.replica_core.specs.Applying.{reply_in, rest_of, answers_at, applied_one, before_applied, holder_applied, batch_applied, applied_from};
 ghost use Rattle.replica_core.specs.Calling.{Reaches};
 ghost use Rattle.replica_core.specs.InRange.{KeepsRange};
-ghost use Rattle.replica_core.specs.Ranges.{IsReplyInRange, IsBatchInRange};
+ghost use Rattle.group_msgs.specs.Batches.{IsReplyInRange};
+ghost use Rattle.replica_core.specs.Ranges.{IsStepBatch};
 
 use crate::holder::{Holder, logs_are_the_models};
 use crate::role::{Mark, Role};
@@ -90,7 +91,7 @@ impl Holder {
     ) -> Result<(), Memory>
         ensures after { OnOk result (self.new ≡ record self.old { tickets = rest_of self.old.tickets index }) }
         ensures batch { OnOk result (batch.new ≡ record batch.old { answers = batch.old.answers ++ answers_at self.old.tickets index reply }) }
-        ensures in_range { IsIndex index → IfSome reply IsReplyInRange → IsBatchInRange batch.old → OnOk result (IsBatchInRange batch.new) }
+        ensures in_range { IsIndex index → IfSome reply IsReplyInRange → IsStepBatch batch.old → OnOk result (IsStepBatch batch.new) }
     {
         let due = self.tickets.take_due(index);
         if let (Some(ticket), Some(reply)) = (due, reply) {

@@ -1,5 +1,5 @@
 //! A replica.
-ghost use Rattle.std.specs.Prelude.{◌≡◌, ◌≤◌, ◌↔◌, Err, IfOk, OnOk};
+ghost use Rattle.std.specs.Prelude.{◌≡◌, ◌≤◌, ◌↔◌, None, Err, IfSome, IfOk, OnOk};
 ghost use Rattle.group_quorum.specs.Voters.{IsId};
 ghost use Rattle.values.specs.declared.limits.TheConstants.{MOST_ROWS};
 ghost use Rattle.replica_model.specs.Linked.{sha_link};
@@ -7,9 +7,10 @@ ghost use Rattle.replica_model.specs.Replica as model;
 ghost use Rattle.replica_model.specs.Call as told;
 ghost use Rattle.replica_model.specs.Call.{empty_batch};
 ghost use Rattle.replica_model.specs.Step.{step};
-ghost use Rattle.replica_core.specs.Standing.{StandsFor, IsSpent};
+ghost use Rattle.replica_core.specs.Standing.{StandsFor, IsSpent, HoldsLog};
 ghost use Rattle.replica_core.specs.Inputs.{IsInput, IsInputInRange};
-ghost use Rattle.replica_core.specs.Ranges.{IsBatchInRange};
+ghost use Rattle.group_msgs.specs.Batches.{IsBatchInRange};
+ghost use Rattle.replica_core.specs.Ranges.{IsStepBatch};
 ghost use Rattle.replica_core.specs.Keeping.{IsSoundState};
 ghost use Rattle.replica_core.specs.Raised.{IsRaised};
 ghost use Rattle.replica_core.specs.Due.{DueAreTold};
@@ -113,6 +114,8 @@ impl Replica {
         ensures due { (s : model.Replica) (i : told.Input) → StandsFor self.old s → IsInput s input.now i
             → OnOk result (DueAreTold s i (step sha_link s i) batch.new) }
         ensures in_range { OnOk result (IsBatchInRange batch.new) }
+        ensures unsaved { OnOk result (batch.new.saved ≡ None) }
+        ensures holds { OnOk result (HoldsLog self.old → HoldsLog self.new) }
         ensures spent { (result ≡ Err StepFault.Spent) ↔ IsSpent self.old }
         ensures unchanged { result ≡ Err StepFault.Spent → (self.new ≡ self.old) × (batch.new ≡ batch.old) }
         ensures memory { result ≡ Err StepFault.Memory → IsSpent self.new }
@@ -130,6 +133,19 @@ impl Replica {
                 self.state = State::Spent;
                 Err(StepFault::Memory)
             }
+        }
+    }
+
+    /// Its id; none is known of a replica that is spent.
+    pub fn id(&self) -> Option<ReplicaId>
+        ensures spent { (result ≡ None) ↔ IsSpent self.now }
+        ensures model { (s : model.Replica) → StandsFor self.now s → IfSome result (λ id. id ≡ s.me) }
+        ensures range { IfSome result IsId }
+    {
+        match &self.state {
+            State::Learner(learner) => Some(learner.me),
+            State::Holder(holder) => Some(holder.me),
+            State::Spent => None,
         }
     }
 
@@ -155,9 +171,10 @@ impl State {
         ensures sound { OnOk result (IsSoundState self.new) }
         ensures model { (s : model.Replica) (i : told.Input) → StandsFor self.old s → IsInput s input.now i
             → OnOk result (StandsFor self.new (step sha_link s i).state × (batch.new ≡ (step sha_link s i).batch)) }
-        ensures in_range { IsStateInRange self.old → IsBatchInRange batch.old
-            → OnOk result (IsStateInRange self.new × IsBatchInRange batch.new) }
+        ensures in_range { IsStateInRange self.old → IsStepBatch batch.old
+            → OnOk result (IsStateInRange self.new × IsStepBatch batch.new) }
         ensures goes_on { ¬ (IsSpent self.old) → OnOk result (¬ (IsSpent self.new)) }
+        ensures holds { OnOk result (HoldsLog self.old → HoldsLog self.new) }
     {
         match self {
             State::Learner(learner) => {

@@ -13,7 +13,7 @@ ghost use Rattle.replica_core.specs.Keeping.{IsSound, progress_in};
 ghost use Rattle.replica_core.specs.Calling.{Reaches, Does};
 ghost use Rattle.group_quorum.specs.Voters.{IsId};
 ghost use Rattle.group_msgs.specs.Ranges.{IsIndex, IsEntryInRange};
-ghost use Rattle.replica_core.specs.Ranges.{IsBatchInRange};
+ghost use Rattle.replica_core.specs.Ranges.{IsStepBatch};
 ghost use Rattle.replica_core.specs.InRange.{IsHolderInRange, KeepsRange, IsForId};
 
 use crate::holder::{Holder, logs_are_the_models};
@@ -141,8 +141,8 @@ impl Leading {
         ensures after { OnOk result (self.new ≡ after_sent self.old log.now peer) }
         ensures model { OfEach sha_link log.now (λ s. (m : model.Leading) → s.term ≡ term → LeadsAs s.limit s.first self.old m
             → OnOk result (SendsAppend s m peer self.new batch.old batch.new)) }
-        ensures in_range { IsId peer → IsIndex term → All IsEntryInRange log.now.entries → IsBatchInRange batch.old
-            → OnOk result (IsBatchInRange batch.new) }
+        ensures in_range { IsId peer → IsIndex term → All IsEntryInRange log.now.entries → IsStepBatch batch.old
+            → OnOk result (IsStepBatch batch.new) }
     {
         logs_are_the_models();
         if !self.can_append(log, peer) {

@@ -278,7 +278,9 @@ fn a_table_of_three_parts(rt: HostRuntime) -> Result<(), Fail> {
         let (batch, _) = group.step(1, &input)?;
         assert_eq!(rt; batch.answers.len(), 1);
     }
-    group.replicas.push(Replica::learner(rt.alloc(), 2))?;
+    let learner = Replica::learner(rt.alloc(), 2);
+    assert_eq!(rt; learner.id(), Some(2));
+    group.replicas.push(learner)?;
     let join = Input::Join {
         id: 2,
         linked: true,
@@ -349,6 +351,7 @@ fn a_spent_replica_stays_spent(rt: HostRuntime) -> Result<(), Fail> {
     let mut replica = Replica {
         state: State::Spent,
     };
+    assert_eq!(rt; replica.id(), None);
     let mut copy = replica.copy()?;
     let mut batch = nothing(rt.alloc());
     let mut other = nothing(rt.alloc());

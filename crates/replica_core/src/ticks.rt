@@ -13,7 +13,7 @@ ghost use Rattle.replica_model.specs.Call.{empty_batch};
 ghost use Rattle.replica_model.specs.Ticks.{tick};
 ghost use Rattle.replica_core.specs.Keeping.{IsSound, IsWithin};
 ghost use Rattle.replica_core.specs.Calling.{Follows};
-ghost use Rattle.replica_core.specs.Ranges.{IsBatchInRange};
+ghost use Rattle.replica_core.specs.Ranges.{IsStepBatch};
 ghost use Rattle.replica_core.specs.InRange.{IsLeadingInRange, KeepsRange, ActsInRange};
 ghost use Rattle.group_quorum.specs.Voters.{IsId};
 ghost use Rattle.group_msgs.specs.Ranges.{IsIndex};
@@ -74,7 +74,7 @@ impl Leading {
     ) -> Result<(), Memory>
         ensures model { (limit : ℕ) (first : Conf) (sendings : List (ℕ × model.Sending)) → SendingsAs limit first self.now.sendings sendings
             → OnOk result (batch.new ≡ record batch.old { sent = batch.old.sent ++ parts_as limit first term sendings peers.now }) }
-        ensures in_range { All IsId peers.now → IsIndex term → IsLeadingInRange self.now → IsBatchInRange batch.old → OnOk result (IsBatchInRange batch.new) }
+        ensures in_range { All IsId peers.now → IsIndex term → IsLeadingInRange self.now → IsStepBatch batch.old → OnOk result (IsStepBatch batch.new) }
     {
         for peer in peers {
             let Some(sending) = self.sendings.get(*peer) else {

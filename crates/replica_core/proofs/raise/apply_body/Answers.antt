@@ -1,5 +1,5 @@
 use Rattle.std.proofs.Common.{sym, subst}
-use Rattle.replica_core.specs.Ranges.{IsReplyInRange}
+use Rattle.group_msgs.specs.Batches.{IsReplyInRange}
 use Rattle.replica_core.proofs.Replies.{reply-in}
 use Rattle.replica_core.proofs.raise.apply_body.Goals as goal
 

@@ -1,4 +1,4 @@
-use Rattle.std.proofs.Common.{◌<◌, IfOk, sym, ap, subst, ◌∙◌}
+use Rattle.std.proofs.Common.{◌<◌, ◌≤◌, IfOk, sym, ap, subst, ◌∙◌}
 use Rattle.values.specs.declared.limits.TheConstants.{TOP}
 use Rattle.member_rules.specs.Standings.{standing_of}
 use Rattle.member_rules.specs.Refusals.{refusal_of, RefusesOr}
@@ -13,11 +13,13 @@ use Rattle.replica_core.specs.Keeping.{leads_now, IsSound}
 use Rattle.replica_core.specs.Standing.{HoldsFor}
 use Rattle.replica_core.proofs.Changes.{follower-refuses, leader-refuses, leader-changes, leading-model, mark-as, dropped-stands, dropped-sound, dropped-leads, admit-room}
 use Rattle.replica_core.proofs.Sends.{leads-is}
-use Rattle.replica_core.specs.InRange.{IsForId, IsHolderInRange}
-use Rattle.replica_core.specs.Ranges.{IsBatchInRange}
-use Rattle.replica_core.proofs.Ranged.{refused-in}
+use Rattle.replica_core.specs.InRange.{IsHolderInRange}
 use Rattle.replica_core.proofs.Handed.{dropped-learner-in}
 use Rattle.replica_core.proofs.Noted.{leading-in}
+use Rattle.values.specs.declared.batch.Refusal.TheVariants.{NotLeader}
+use Rattle.std.proofs.lemmas.Result.{IfErr-at_err}
+use Rattle.member_rules.specs.InRange.{IsFaultInRange}
+use Rattle.replica_core.proofs.Refused.{refuses-in, fault-in, mark-in}
 use Rattle.replica_core.proofs.holder.Holder.admit.Goals as goal
 
 pub returns-then-not-leads-clause-model : goal.returns-then-not-leads-clause-model
@@ -75,12 +77,14 @@ returns-in-Err-clause-model c = λ s st.
     (λ x. changes.push_members s (record x { learners = others id x.learners }) (changes.with_voter (newest s) id)) (refusal_of c.in-Err.fault) m.1.0 refused))
 
 pub returns-then-not-leads-clause-in_range : goal.returns-then-not-leads-clause-in_range
-returns-then-not-leads-clause-in_range c = λ id ranged told.
-    (ranged, (subst IsBatchInRange (sym c.refuse_as_follower.ensures.batch) (refused-in c.args.batch.now _ told), subst IsForId (sym c.refuse_as_follower.ensures.nobody) tt))
+returns-then-not-leads-clause-in_range c = λ id.
+    refuses-in c.args.self.now c.args.batch.now _ _ (NotLeader c.args.self.now.known) tt c.refuse_as_follower.ensures.batch c.refuse_as_follower.ensures.nobody
 
 pub returns-in-Err-clause-in_range : goal.returns-in-Err-clause-in_range
-returns-in-Err-clause-in_range c = λ id ranged told.
-    (ranged, (subst IsBatchInRange (sym c.refuse.ensures.batch) (refused-in c.args.batch.now _ told), subst IsForId (sym c.refuse.ensures.nobody) tt))
+returns-in-Err-clause-in_range c = λ id.
+    refuses-in c.args.self.now c.args.batch.now _ _ (refusal_of c.in-Err.fault)
+    (fault-in c.in-Err.fault (IfErr-at_err IsFaultInRange c.in-Err.is (c.admit.ensures.range (subst (λ n. n ≤ TOP) (sym c.learner_mark.ensures) (mark-in c.args.self.now c.args.id c.requires.sound)))))
+    c.refuse.ensures.batch c.refuse.ensures.nobody
 
 pub returns-in-Ok-clause-in_range : goal.returns-in-Ok-clause-in_range
 returns-in-Ok-clause-in_range c = λ id ranged told.

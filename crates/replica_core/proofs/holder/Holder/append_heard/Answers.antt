@@ -14,7 +14,7 @@ use Rattle.replica_core.specs.declared.send.Appends.TheVariants.{Nobody}
 use Rattle.replica_core.specs.Applying.{applied_from, holder_applied, batch_applied}
 use Rattle.replica_core.specs.InRange.{IsHolderInRange}
 use Rattle.replica_core.specs.Keeping.{IsSound}
-use Rattle.replica_core.specs.Ranges.{IsBatchInRange}
+use Rattle.replica_core.specs.Ranges.{IsStepBatch}
 use Rattle.replica_core.specs.Replacing.{kept_upto, reply_to}
 use Rattle.replica_core.specs.Calling.{Does}
 use Rattle.replica_core.proofs.Offered.{all_fit, reached-as, halted-as, heard-sound, follower, told_first, follower-as, told-as}
@@ -163,13 +163,16 @@ returns-then-is_some-clause-in_range c = λ id ranged told.
       halted-in h ranged w took brings,
       (
         record {
-          lead = told.lead;
-          members = told.members;
-          halt = brings.halt;
-          taken = told.taken;
-          commits = told.commits;
-          answers = told.answers;
-          sent = told.sent;
+          ranged = record {
+            lead = told.ranged.lead;
+            members = told.ranged.members;
+            halt = brings.halt;
+            taken = told.ranged.taken;
+            commits = told.ranged.commits;
+            answers = told.ranged.answers;
+            sent = told.ranged.sent;
+            refused = told.ranged.refused;
+          };
           saved = told.saved;
         },
         tt,
@@ -193,8 +196,8 @@ returns-clause-in_range c = λ id ranged told.
     let base = r.base in
     let above = r.above in
     let follows_in = subst IsHolderInRange (sym (follows c)) (follower-in h ranged w took brings c.args.from id) in
-    let tells_in = subst IsBatchInRange (sym (tells c)) (told-in h ranged w took brings b told (ordered_then c) r.kept (omega (arith, base, above))) in
+    let tells_in = subst IsStepBatch (sym (tells c)) (told-in h ranged w took brings b told (ordered_then c) r.kept (omega (arith, base, above))) in
     let applied = c.in_ok-apply_committed.ensures.in_range follows_in tells_in in (
       applied.0,
-      (subst IsBatchInRange (sym c.in_ok-send_reply.ensures) (replied-in h ranged w took brings c.apply_committed.new.batch c.args.from id applied.1), tt),
+      (subst IsStepBatch (sym c.in_ok-send_reply.ensures) (replied-in h ranged w took brings c.apply_committed.new.batch c.args.from id applied.1), tt),
     )

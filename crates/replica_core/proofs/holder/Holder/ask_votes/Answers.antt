@@ -3,7 +3,7 @@ use Rattle.std.proofs.lemmas.List.Elements.{All-get_or}
 use Rattle.group_quorum.specs.Voters.{IsId}
 use Rattle.group_msgs.specs.Ranges.{IsIndex}
 use Rattle.replica_core.specs.declared.holder.Holder.{Holder}
-use Rattle.replica_core.specs.Ranges.{IsBatchInRange}
+use Rattle.replica_core.specs.Ranges.{IsStepBatch}
 use Rattle.replica_core.proofs.Ranged.{sent-in, others_counted-ids, last_term-in}
 use Rattle.std.proofs.lemmas.List.{take_all}
 use Rattle.values.specs.declared.batch.Batch.{Batch}
@@ -33,7 +33,7 @@ loop-voter-preserved c = record {
   in_range = λ ids terms b.
       let vs : List ℕ = c.as_slice-voter-items.result.now in
       let d : Batch = c.loop-voter.batch in
-      subst (λ xs. IsBatchInRange (record d { sent = xs })) (sym c.in_ok-push.ensures.ok)
+      subst (λ xs. IsStepBatch (record d { sent = xs })) (sym c.in_ok-push.ensures.ok)
       (sent-in d (c.loop-voter.invariant.in_range ids terms b) (get_or vs c.loop-voter.voter-index 0)
       (AskVote c.args.self.now.ballot.term c.last-last_index.result c.last_term-last_term.result)
       (All-get_or IsId vs c.loop-voter.voter-index 0 c.loop-voter-test.true ids) terms);

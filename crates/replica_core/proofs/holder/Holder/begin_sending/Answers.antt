@@ -1,6 +1,6 @@
 use Rattle.std.proofs.Common.{ℕ, take, sym, subst, ◌∙◌}
 use Rattle.values.specs.declared.entry.Point.{Point}
-use Rattle.record_table.specs.Table.{RecordTable}
+use Rattle.record_rules.specs.Table.{RecordTable}
 use Rattle.replica_model.specs.Replica as model
 use Rattle.replica_log.specs.declared.configs.Configs.{Configs}
 use Rattle.table_transfer.specs.SentTable.{begun}

@@ -19,7 +19,7 @@ use Rattle.replica_core.proofs.Asks.{found-request, no-request, refused, MayAsk,
 use Rattle.replica_core.proofs.Changes.{leading-model}
 use Rattle.group_msgs.specs.Ranges.{IsBodyInRange}
 use Rattle.replica_core.specs.InRange.{IsHolderInRange}
-use Rattle.replica_core.specs.Ranges.{IsBatchInRange}
+use Rattle.replica_core.specs.Ranges.{IsStepBatch}
 use Rattle.replica_core.proofs.Handed.{read-in, refusal-in, asked-in}
 use Rattle.replica_core.proofs.Ranged.{answered-in, pushed-in, table-in}
 use Rattle.replica_core.proofs.holder.Holder.client_request.Goals as goal
@@ -95,7 +95,7 @@ returns-in-Some-refusal-clause-in_range c = λ ranged told.
     let read = read-in c.args.batch.now b' c.args.ask.client c.args.ask.number (request_of c.args.ask.request.now) c.in_ok-request.field-0 c.in_ok-request.ensures.read told in (
       ranged,
       (
-        subst (λ xs. IsBatchInRange (record b' { answers = xs })) (sym c.in_ok-push.ensures.ok)
+        subst (λ xs. IsStepBatch (record b' { answers = xs })) (sym c.in_ok-push.ensures.ok)
             (answered-in b' read c.args.ask.client c.args.ask.number c.in-Some-refusal.refusal
             (refusal-in c.args.self.now c.in-Some-refusal.refusal ranged (sym c.refusal.ensures ∙ c.in-Some-refusal.is))),
         tt,

@@ -15,12 +15,16 @@ use Rattle.replica_core.specs.declared.send.Appends.TheVariants.{Nobody}
 use Rattle.replica_core.specs.Calling.{Does}
 use Rattle.replica_core.proofs.Changes.{leader-refuses, leader-changes, leading-model, join-few, joined-sound, joined-does}
 use Rattle.group_msgs.specs.Ranges.{IsIndex}
-use Rattle.replica_core.specs.InRange.{IsForId, IsHolderInRange}
-use Rattle.replica_core.specs.Ranges.{IsBatchInRange}
-use Rattle.replica_core.proofs.Ranged.{refused-in, sent-in, part-in}
+use Rattle.replica_core.specs.InRange.{IsHolderInRange}
+use Rattle.replica_core.specs.Ranges.{IsStepBatch}
+use Rattle.replica_core.proofs.Ranged.{sent-in, part-in}
 use Rattle.replica_core.specs.Leads.{with_learner}
 use Rattle.replica_core.proofs.Handed.{with_learner-in}
 use Rattle.replica_core.proofs.Noted.{leading-in}
+use Rattle.values.specs.declared.batch.Refusal.TheVariants.{NotLeader}
+use Rattle.std.proofs.lemmas.Result.{IfErr-at_err}
+use Rattle.member_rules.specs.InRange.{IsFaultInRange}
+use Rattle.replica_core.proofs.Refused.{refuses-in, fault-in}
 use Rattle.replica_core.proofs.holder.Holder.join.Goals as goal
 
 pub returns-in-Err-clause-model : goal.returns-in-Err-clause-model
@@ -78,12 +82,14 @@ returns-clause-sound c =
     (omega (arith, few, long)) (omega (arith, at, a, b)) (omega (arith, point, a, b))
 
 pub returns-in_default-clause-in_range : goal.returns-in_default-clause-in_range
-returns-in_default-clause-in_range c = λ id ranged told.
-    (ranged, (subst IsBatchInRange (sym c.refuse_as_follower.ensures.batch) (refused-in c.args.batch.now _ told), subst IsForId (sym c.refuse_as_follower.ensures.nobody) tt))
+returns-in_default-clause-in_range c = λ id.
+    refuses-in c.args.self.now c.args.batch.now _ _ (NotLeader c.args.self.now.known) tt c.refuse_as_follower.ensures.batch c.refuse_as_follower.ensures.nobody
 
 pub returns-in-Err-clause-in_range : goal.returns-in-Err-clause-in_range
-returns-in-Err-clause-in_range c = λ id ranged told.
-    (ranged, (subst IsBatchInRange (sym c.refuse.ensures.batch) (refused-in c.args.batch.now _ told), subst IsForId (sym c.refuse.ensures.nobody) tt))
+returns-in-Err-clause-in_range c = λ id.
+    refuses-in c.args.self.now c.args.batch.now _ _ (refusal_of c.in-Err.fault)
+    (fault-in c.in-Err.fault (IfErr-at_err IsFaultInRange c.in-Err.is c.join.ensures.range))
+    c.refuse.ensures.batch c.refuse.ensures.nobody
 
 pub returns-clause-in_range : goal.returns-clause-in_range
 returns-clause-in_range c = λ id ranged told.
@@ -95,7 +101,7 @@ returns-clause-in_range c = λ id ranged told.
       subst IsHolderInRange (sym c.in_ok-take_learner.ensures)
           (leading-in h (λ l. with_learner l c.args.id next kept) ranged (λ l r. with_learner-in l c.args.id next kept r id sending)),
       (
-        subst (λ xs. IsBatchInRange (record (c.args.batch.now) { sent = xs })) (sym c.in_ok-push.ensures.ok)
+        subst (λ xs. IsStepBatch (record (c.args.batch.now) { sent = xs })) (sym c.in_ok-push.ensures.ok)
             (sent-in c.args.batch.now told c.args.id (Part c.take_learner.new.self.ballot.term c.in_ok-part.part) id
             (term, part-in kept c.in_ok-part.part c.in_ok-part.ensures.outstanding sending c.in_ok-part.ensures.takable c.in_ok-part.ensures.sized)),
         tt,

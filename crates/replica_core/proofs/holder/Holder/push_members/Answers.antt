@@ -16,7 +16,7 @@ use Rattle.group_quorum.specs.Voters.{IsSound as IsSoundConf}
 use Rattle.values.specs.declared.entry.LogEntry.{LogEntry}
 use Rattle.group_msgs.specs.Ranges.{IsIndex}
 use Rattle.replica_core.specs.InRange.{IsHolderInRange}
-use Rattle.replica_core.specs.Ranges.{IsBatchInRange}
+use Rattle.replica_core.specs.Ranges.{IsStepBatch}
 use Rattle.replica_core.proofs.Ranged.{all-members-in, conf-parts-in, pushed-in}
 use Rattle.replica_core.proofs.holder.Holder.push_members.Goals as goal
 
@@ -68,7 +68,7 @@ returns-clause-in_range c = λ ranged told.
     let last = c.last-index.ensures.last in
     let raised = c.in_ok-raise.ensures.in_range
     (subst IsHolderInRange (sym c.in_ok-push-2.ensures.after) (pushed-in h e ranged (c.requires.sound.term, second)))
-    (subst (λ ms. IsBatchInRange (record b { members = ms })) (sym c.in_ok-push.ensures.ok)
+    (subst (λ ms. IsStepBatch (record b { members = ms })) (sym c.in_ok-push.ensures.ok)
     (all-members-in b told ((index, c.margin-margin.result, c.in_ok-voters_of.field-0) ∷ [])
     (All-cons (λ (m : ℕ × ℕ × List ℕ). IsIndex m.0 × IsSoundConf (record { margin = m.1; voters = m.2 })) (index, c.margin-margin.result, c.in_ok-voters_of.field-0) []
     (omega (arith, room, last), first) (All-nil (λ (m : ℕ × ℕ × List ℕ). IsIndex m.0 × IsSoundConf (record { margin = m.1; voters = m.2 })))))) in

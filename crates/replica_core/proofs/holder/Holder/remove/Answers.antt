@@ -6,9 +6,11 @@ use Rattle.replica_core.specs.declared.holder.Holder.{Holder}
 use Rattle.replica_core.specs.Calling.{Does}
 use Rattle.replica_core.proofs.Changes.{leader-changes, leading-model, leading-stands}
 use Rattle.replica_core.proofs.Sends.{leads-is}
-use Rattle.replica_core.specs.InRange.{IsForId}
-use Rattle.replica_core.specs.Ranges.{IsBatchInRange}
-use Rattle.replica_core.proofs.Ranged.{refused-in}
+use Rattle.values.specs.declared.batch.Refusal.TheVariants.{NotLeader}
+use Rattle.std.proofs.lemmas.Result.{IfErr-at_err}
+use Rattle.member_rules.specs.InRange.{IsFaultInRange}
+use Rattle.replica_core.proofs.Refused.{refuses-in, fault-in}
+use Rattle.member_rules.specs.Refusals.{refusal_of}
 use Rattle.replica_core.proofs.holder.Holder.remove.Goals as goal
 
 pub returns-in-Ok-clause-model : goal.returns-in-Ok-clause-model
@@ -24,12 +26,14 @@ returns-in-Ok-clause-model c = λ s st.
     (c.push_members.ensures.model s m.0 (leading-stands h s m.0 st m.1.0)))
 
 pub returns-then-not-leads-clause-in_range : goal.returns-then-not-leads-clause-in_range
-returns-then-not-leads-clause-in_range c = λ id ranged told.
-    (ranged, (subst IsBatchInRange (sym c.refuse_as_follower.ensures.batch) (refused-in c.args.batch.now _ told), subst IsForId (sym c.refuse_as_follower.ensures.nobody) tt))
+returns-then-not-leads-clause-in_range c = λ id.
+    refuses-in c.args.self.now c.args.batch.now _ _ (NotLeader c.args.self.now.known) tt c.refuse_as_follower.ensures.batch c.refuse_as_follower.ensures.nobody
 
 pub returns-in-Err-clause-in_range : goal.returns-in-Err-clause-in_range
-returns-in-Err-clause-in_range c = λ id ranged told.
-    (ranged, (subst IsBatchInRange (sym c.refuse.ensures.batch) (refused-in c.args.batch.now _ told), subst IsForId (sym c.refuse.ensures.nobody) tt))
+returns-in-Err-clause-in_range c = λ id.
+    refuses-in c.args.self.now c.args.batch.now _ _ (refusal_of c.in-Err.fault)
+    (fault-in c.in-Err.fault (IfErr-at_err IsFaultInRange c.in-Err.is c.remove.ensures.range))
+    c.refuse.ensures.batch c.refuse.ensures.nobody
 
 pub returns-in-Ok-clause-in_range : goal.returns-in-Ok-clause-in_range
 returns-in-Ok-clause-in_range c = λ id ranged told. c.push_members.ensures.in_range ranged told

@@ -1,7 +1,7 @@
 use Rattle.std.proofs.Common.{subst, sym, arith}
 use Rattle.values.specs.declared.peer.PeerMsg.TheVariants.{Rejected}
 use Rattle.replica_core.specs.declared.holder.Holder.{Holder}
-use Rattle.replica_core.specs.Ranges.{IsBatchInRange}
+use Rattle.replica_core.specs.Ranges.{IsStepBatch}
 use Rattle.replica_core.proofs.Ranged.{sent-in}
 use Rattle.replica_core.proofs.holder.Holder.stale_append.Goals as goal
 
@@ -13,7 +13,7 @@ returns-clause-in_range c = λ id asked ranged told.
     let at = c.promised.ensures.promised in (
       ranged,
       (
-        subst (λ xs. IsBatchInRange (record (c.args.batch.now) { sent = xs })) (sym c.in_ok-push.ensures.ok)
+        subst (λ xs. IsStepBatch (record (c.args.batch.now) { sent = xs })) (sym c.in_ok-push.ensures.ok)
             (sent-in c.args.batch.now told c.args.from (Rejected h.ballot.term c.args.asked c.promised.result) id (c.requires.sound.term, (asked, omega (arith, a, b, at)))),
         tt,
       ),

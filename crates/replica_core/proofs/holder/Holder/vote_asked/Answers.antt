@@ -9,7 +9,7 @@ use Rattle.replica_core.specs.Calling.{Does}
 use Rattle.replica_core.proofs.Calls.{says-does}
 use Rattle.replica_core.proofs.Holding.{last-model}
 use Rattle.group_msgs.specs.Ranges.{IsIndex}
-use Rattle.replica_core.specs.Ranges.{IsBatchInRange}
+use Rattle.replica_core.specs.Ranges.{IsStepBatch}
 use Rattle.replica_core.proofs.Ranged.{sent-in, ballot-in}
 use Rattle.replica_core.proofs.holder.Holder.vote_asked.Goals as goal
 
@@ -47,7 +47,7 @@ returns-clause-in_range c = λ id ranged in_b.
     ∙ cond_both granted (record old { vote = c.args.from }) old (λ (x : Ballot). x.term ≡ old.term) (λ t. refl) (λ f. refl) in (
       ballot-in h new ranged,
       (
-        subst (λ xs. IsBatchInRange (record b { sent = xs })) (sym c.in_ok-push.ensures.ok)
+        subst (λ xs. IsStepBatch (record b { sent = xs })) (sym c.in_ok-push.ensures.ok)
             (sent-in b in_b c.args.from (Vote new.term granted) id (subst IsIndex (sym term) c.requires.sound.term, tt)),
         tt,
       ),

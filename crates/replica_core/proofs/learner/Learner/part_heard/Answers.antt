@@ -14,7 +14,7 @@ use Rattle.replica_core.specs.Learning.{LearnsOrHolds}
 use Rattle.replica_core.proofs.Learns.{learning, hears-taken, hears-whole}
 use Rattle.table_transfer.specs.TakenParts.{TakenParts}
 use Rattle.replica_core.specs.InRange.{IsLearnerInRange, IsHolderInRange}
-use Rattle.replica_core.specs.Ranges.{IsBatchInRange}
+use Rattle.replica_core.specs.Ranges.{IsStepBatch}
 use Rattle.replica_core.proofs.Handed.{taken-in, other-in, expecting-in, taken-told-in, holder_at-in}
 use Rattle.replica_core.proofs.learner.Learner.part_heard.Goals as goal
 
@@ -53,7 +53,7 @@ returns-in_ok-expect-in-Taken-clause-in_range c = λ id ranged told.
       record { me = ranged.me; point = subst (λ p. IfSome p (λ (x : TakenParts). IsIndex x.point.index)) (sym (ap (λ x. x.0) c.in_ok-next.ensures.taken)) (taken-in before.taking part ranged.point c.requires.range.index) },
       (
         tt,
-        subst IsBatchInRange (sym c.in_ok-expect-in-Taken.ensures)
+        subst IsStepBatch (sym c.in_ok-expect-in-Taken.ensures)
             (expecting-in c.args.batch.now c.args.from c.max-self.result part.point c.in-Taken.next told id (omega (arith, t, s, m)) c.requires.range.index),
       ),
     )
@@ -68,7 +68,7 @@ returns-in_ok-expect-in-Other-clause-in_range c = λ id ranged told.
       record { me = ranged.me; point = subst (λ p. IfSome p (λ (x : TakenParts). IsIndex x.point.index)) (sym (ap (λ x. x.0) c.in_ok-next.ensures.taken)) (taken-in before.taking part ranged.point c.requires.range.index) },
       (
         tt,
-        subst IsBatchInRange (sym c.in_ok-expect-in-Other.ensures)
+        subst IsStepBatch (sym c.in_ok-expect-in-Other.ensures)
             (expecting-in c.args.batch.now c.args.from c.max-self.result c.in-Other.point c.in-Other.next told id (omega (arith, t, s, m))
             (other-in before.taking part c.in-Other.point c.in-Other.next ranged.point (sym (ap (λ x. x.1) c.in_ok-next.ensures.taken) ∙ c.in-Other.is))),
       ),
@@ -87,7 +87,7 @@ returns-in_ok-expect-in-Whole-clause-in_range c = λ id ranged told.
       learns,
       (
         subst IsHolderInRange (sym c.with_table.ensures.holder) (holder_at-in l c.args.from part c.in-Whole.table learns id c.requires.range),
-        subst IsBatchInRange (sym c.in_ok-expect-in-Whole.ensures)
+        subst IsStepBatch (sym c.in_ok-expect-in-Whole.ensures)
             (expecting-in (record (c.args.batch.now) { taken = Some part.point }) c.args.from c.max-self.result part.point part.parts
             (taken-told-in c.args.batch.now part.point told c.requires.range.index) id (omega (arith, t, s, m)) c.requires.range.index),
       ),

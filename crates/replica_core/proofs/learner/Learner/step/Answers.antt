@@ -5,7 +5,7 @@ use Rattle.replica_core.specs.Inputs.{IsInput}
 use Rattle.replica_core.specs.Learning.{LearnsOrHolds}
 use Rattle.replica_core.proofs.Learns.{hears-part}
 use Rattle.replica_core.specs.Inputs.{IsInputInRange}
-use Rattle.replica_core.specs.Ranges.{IsBatchInRange}
+use Rattle.replica_core.specs.Ranges.{IsStepBatch}
 use Rattle.replica_core.proofs.Handed.{unled-in}
 use Rattle.replica_core.proofs.learner.Learner.step.Goals as goal
 
@@ -24,4 +24,4 @@ returns-in-Part-clause-in_range c =
 
 pub returns-in_ok-ask_heard-in-Client-clause-in_range : goal.returns-in_ok-ask_heard-in-Client-clause-in_range
 returns-in_ok-ask_heard-in-Client-clause-in_range c = λ ranged told.
-    (ranged, (tt, subst IsBatchInRange (sym c.in_ok-ask_heard-in-Client.ensures) (unled-in c.args.batch.now _ _ _ told)))
+    (ranged, (tt, subst IsStepBatch (sym c.in_ok-ask_heard-in-Client.ensures) (unled-in c.args.batch.now _ _ _ told)))

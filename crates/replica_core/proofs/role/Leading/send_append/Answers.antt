@@ -15,7 +15,7 @@ use Rattle.replica_core.specs.Calling.{SendsAppend}
 use Rattle.replica_core.specs.Leads.{can_append_at, with_progress_in}
 use Rattle.replica_core.proofs.Sends.{sends-none, sends-one, next-above}
 use Rattle.group_msgs.specs.Ranges.{IsInRange}
-use Rattle.replica_core.specs.Ranges.{IsBatchInRange}
+use Rattle.replica_core.specs.Ranges.{IsStepBatch}
 use Rattle.replica_core.proofs.Ranged.{sent-in, append-in}
 use Rattle.replica_core.proofs.role.Leading.send_append.Goals as goal
 
@@ -77,6 +77,6 @@ returns-clause-in_range c = λ id term entries in_b.
     let is : Some c.in-Some.append ≡ Some made =
     sym c.in-Some.is ∙ (c.in_ok-append.ensures.append ∙ cond-true (nat_lt (base_index w) p.next) (Some made) None (lt-ltb (base_index w) p.next (omega (arith, above, same)))) in
     let append-is : c.in-Some.append ≡ made = cc in
-    subst (λ xs. IsBatchInRange (record b { sent = xs })) (sym c.in_ok-push.ensures.ok)
+    subst (λ xs. IsStepBatch (record b { sent = xs })) (sym c.in_ok-push.ensures.ok)
     (sent-in b in_b v c.in-Some.append id (subst IsInRange (sym append-is)
     (term, append-in w p.next c.can_append.ensures.ordered entries (omega (arith, above, same)) (omega (arith, most, same)))))

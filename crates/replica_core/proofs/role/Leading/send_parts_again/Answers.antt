@@ -4,7 +4,7 @@ use Rattle.std.proofs.lemmas.List.{take_all, take_more}
 use Rattle.std.proofs.lemmas.List.Elements.{All-get_or}
 use Rattle.group_quorum.specs.Voters.{IsId}
 use Rattle.values.specs.declared.peer.TablePart.{TablePart}
-use Rattle.replica_core.specs.Ranges.{IsBatchInRange}
+use Rattle.replica_core.specs.Ranges.{IsStepBatch}
 use Rattle.replica_core.specs.InRange.{IsSendingInRange}
 use Rattle.replica_core.proofs.Ranged.{sent-in, part-in, value-in}
 use Rattle.values.specs.declared.batch.Batch.{Batch}
@@ -47,7 +47,7 @@ loop-peer-preserved c = record {
       let v : ℕ = get_or c.args.peers.now c.loop-peer.peer-index 0 in
       let part : TablePart = c.in_ok-part.part in
       let is = ap option_copied (sym c.in-Some.is) ∙ c.get.ensures in
-      subst (λ xs. IsBatchInRange (record d { sent = xs })) (sym c.in_ok-push.ensures.ok)
+      subst (λ xs. IsStepBatch (record d { sent = xs })) (sym c.in_ok-push.ensures.ok)
       (sent-in d (c.loop-peer.invariant.in_range ids term ranged b) v (Part c.args.term part) (All-get_or IsId c.args.peers.now c.loop-peer.peer-index 0 c.loop-peer-test.true ids) (
         term,
         part-in c.in-Some.sending.now part c.in_ok-part.ensures.outstanding (value-in IsSendingInRange c.args.self.now.sendings v c.in-Some.sending.now (sym is) ranged.sendings)
