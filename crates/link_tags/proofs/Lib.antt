@@ -1,0 +1,6 @@
+mod Padding
+mod Relayed
+mod Rows
+mod Sameness
+mod Sealed
+mod Turns

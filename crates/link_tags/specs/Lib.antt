@@ -1,0 +1,4 @@
+pub mod Ends
+pub mod Hmac
+pub mod Keyed
+pub mod Passing
