@@ -1,0 +1,6 @@
+mod Saved
+mod States
+mod Taking
+mod Answered
+mod Linked
+mod Runs
