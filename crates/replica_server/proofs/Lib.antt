@@ -1,0 +1,15 @@
+pub mod Answered
+pub mod Behind
+pub mod Endings
+pub mod Filling
+pub mod FrameRead
+pub mod Framed
+pub mod Fuel
+pub mod Handed
+pub mod MapCalled
+pub mod MapStep
+pub mod MapTaken
+pub mod Reaching
+pub mod Told
+pub mod Turned
+pub mod Turning
