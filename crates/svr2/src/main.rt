@@ -33,6 +33,7 @@ fn name(status: Status) -> &'static str {
         Status::WriteFault => "write fault",
         Status::FieldFault => "field fault",
         Status::Limit => "limit",
+        Status::Frame => "frame",
     }
 }
 

@@ -4,3 +4,4 @@ pub mod Runs
 pub mod Parses
 mod Examples
 mod WordExamples
+mod Serves

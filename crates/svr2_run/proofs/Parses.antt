@@ -9,9 +9,10 @@ use Rattle.clap.proofs.WalkLemmas.{first_value-rows}
 use Rattle.std.proofs.lemmas.Bool.{cases_Bool}
 use Rattle.std.proofs.lemmas.Slice.Eq.{bytes_eq-Decides}
 use Rattle.std.specs.Prelude.{bytes_eq, slice_get}
-use Rattle.svr2_run.specs.Words.{command_of, if_taken, limit_of, matched, table_app, table_of}
+use Rattle.svr2_run.specs.Words.{command_of, if_taken, key_of, limit_of, matched, table_app, table_of, tagged_app, tagged_of}
 use Rattle.svr2_run.specs.declared.words.Command.{Command}
-use Rattle.svr2_run.specs.declared.words.Command.TheVariants.{Table}
+use Rattle.svr2_run.specs.declared.words.Command.TheVariants.{Play, Tagged}
+use Rattle.svr2_run.specs.declared.words.Play.TheVariants.{Table}
 
 -- ---- words that are refused
 
@@ -39,17 +40,25 @@ value_is app want words m id is simple has =
     first_value-rows (found_of m) id ∙ ap (first_of id) ((has (ap is_simple is ∙ simple)).0 ∙ ap (λ (a : App). matches_of a words) is)
 
 pub table_is : (words : List (List ℕ)) (limit o : Option ℕ) → matched table_app words ≡ Some (matches_of table_app words) → limit ≡ limit_of (first_of (codes "rows") (matches_of table_app words))
-    → limit ≡ o → option_map Table o ≡ table_of words
+    → limit ≡ o → option_map (λ limit. Play (Table limit)) o ≡ table_of words
 table_is words limit o is value says = rw (is, ← value, says) refl
+
+pub tagged_is : (words : List (List ℕ)) (key o : Option (List ℕ)) → matched tagged_app words ≡ Some (matches_of tagged_app words) → key ≡ key_of (first_of (codes "key") (matches_of tagged_app words))
+    → key ≡ o → option_map Tagged o ≡ tagged_of words
+tagged_is words key o is value says = rw (is, ← value, says) refl
 
 -- ---- another word than a command's name
 
 differs : (xs ys : List ℕ) → (xs ≡ ys → ⊥) → bytes_eq xs ys ≡ false
 differs xs ys ne = elim (cases_Bool (bytes_eq xs ys)) [ inl y ↦ absurd (ne ((bytes_eq-Decides xs ys).0 y)) | inr n ↦ n ]
 
-no_name : (name : List ℕ) (rest : List (List ℕ)) → (name ≡ codes "replay" → ⊥) → (name ≡ codes "table" → ⊥) → None ≡ command_of (name ∷ rest)
-no_name name rest a b = rw (differs name (codes "replay") a, differs name (codes "table") b) refl
+-- the word is the name of no command
+abbrev pub IsNoName : List ℕ → Type 0
+IsNoName name = (name ≡ codes "replay" → ⊥) × (name ≡ codes "table" → ⊥) × (name ≡ codes "serve" → ⊥) × (name ≡ codes "tagged" → ⊥)
 
-pub no_command : {X : Type 0} (bytes : X → List ℕ) (words : List X) (x : X) → slice_get words 0 ≡ Some x → (bytes x ≡ codes "replay" → ⊥) → (bytes x ≡ codes "table" → ⊥) → None ≡ command_of (map bytes words)
-no_command bytes [] x is a b = cc
-no_command bytes (w ∷ words) x is a b = let same : w ≡ x = cc is in rw same (no_name (bytes x) (map bytes words) a b)
+no_name : (name : List ℕ) (rest : List (List ℕ)) → IsNoName name → None ≡ command_of (name ∷ rest)
+no_name name rest (a, b, s, t) = rw (differs name (codes "replay") a, differs name (codes "table") b, differs name (codes "serve") s, differs name (codes "tagged") t) refl
+
+pub no_command : {X : Type 0} (bytes : X → List ℕ) (words : List X) (x : X) → slice_get words 0 ≡ Some x → IsNoName (bytes x) → None ≡ command_of (map bytes words)
+no_command bytes [] x is none = cc
+no_command bytes (w ∷ words) x is none = let same : w ≡ x = cc is in rw same (no_name (bytes x) (map bytes words) none)

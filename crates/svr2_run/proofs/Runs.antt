@@ -22,8 +22,8 @@ use Rattle.svr2_run.specs.Run.{CutOff, EndsStopped, RunsOver, StoppedBy, WroteLi
 use Rattle.svr2_run.specs.declared.event.Event.{Event}
 use Rattle.svr2_run.specs.declared.command.Status.{Status}
 use Rattle.svr2_run.specs.declared.command.Status.TheVariants as status
-use Rattle.svr2_run.specs.declared.words.Command.{Command}
-use Rattle.svr2_run.specs.declared.words.Command.TheVariants.{Replay, Table}
+use Rattle.svr2_run.specs.declared.words.Play.{Play}
+use Rattle.svr2_run.specs.declared.words.Play.TheVariants.{Replay, Table}
 
 -- ---- a trace with a record outside the form ends with its line
 
@@ -55,62 +55,62 @@ off_ends : (rows : ℕ) (why : Stopped) (w : Written Applied) → table.cause_in
 off_ends rows why (On text s) e = cc e
 off_ends rows why (Off text stop s) e = record { before = text; line = stopped_text stop; last = (stop, refl); parts = refl }
 
--- ---- the course of a command
+-- ---- the course of a play
 
-abbrev pub course_of : Command → Course Stopped
+abbrev pub course_of : Play → Course Stopped
 course_of Replay = course_from start
 course_of (Table rows) = table.course_from (empty rows)
 
-pub text_is : (command : Command) (all : List ℕ) → (course_of command).text true (records_of all) ≡ text_of command all
+pub text_is : (play : Play) (all : List ℕ) → (course_of play).text true (records_of all) ≡ text_of play all
 text_is Replay all = refl
 text_is (Table rows) all = refl
 
-lines_are : (command : Command) (bytes : List ℕ) → (course_of command).text false (whole_records bytes) ≡ lines_of command bytes
+lines_are : (play : Play) (bytes : List ℕ) → (course_of play).text false (whole_records bytes) ≡ lines_of play bytes
 lines_are Replay bytes = refl
 lines_are (Table rows) bytes = refl
 
-reason_is : (command : Command) (all : List ℕ) → (course_of command).reason (records_of all) ≡ stop_of command all
+reason_is : (play : Play) (all : List ℕ) → (course_of play).reason (records_of all) ≡ stop_of play all
 reason_is Replay all = refl
 reason_is (Table rows) all = refl
 
-whole_reason_is : (command : Command) (bytes : List ℕ) → (course_of command).reason (whole_records bytes) ≡ whole_stop_of command bytes
+whole_reason_is : (play : Play) (bytes : List ℕ) → (course_of play).reason (whole_records bytes) ≡ whole_stop_of play bytes
 whole_reason_is Replay bytes = refl
 whole_reason_is (Table rows) bytes = refl
 
-stop_line : (command : Command) (all : List ℕ) (why : Stopped) → stop_of command all ≡ Some why → EndsStopped command (text_of command all)
+stop_line : (play : Play) (all : List ℕ) (why : Stopped) → stop_of play all ≡ Some why → EndsStopped play (text_of play all)
 stop_line Replay all why e = ends_stopped start (records_of all) (unformed (in_form all) why e)
 stop_line (Table rows) all why e = off_ends rows why (all_written table_played (empty rows) (records_of all)) e
 
 -- ---- by how the engine ended
 
-stopped_by : (command : Command) (why : Stopped) (all : List ℕ) (x y : Option (List ℕ)) → (course_of command).reason (records_of all) ≡ Some why
-    → Appends x y ((course_of command).text true (records_of all)) → StoppedBy command why all x y
-stopped_by command why all x y reason text =
-    let stop = sym (reason_is command all) ∙ reason in
-    (stop, stop_line command all why stop, subst (Appends x y) (text_is command all) text)
+stopped_by : (play : Play) (why : Stopped) (all : List ℕ) (x y : Option (List ℕ)) → (course_of play).reason (records_of all) ≡ Some why
+    → Appends x y ((course_of play).text true (records_of all)) → StoppedBy play why all x y
+stopped_by play why all x y reason text =
+    let stop = sym (reason_is play all) ∙ reason in
+    (stop, stop_line play all why stop, subst (Appends x y) (text_is play all) text)
 
-wrote_lines : (command : Command) (bytes : List ℕ) (x y : Option (List ℕ)) → (course_of command).reason (whole_records bytes) ≡ None
-    → Appends x y ((course_of command).text false (whole_records bytes)) → WroteLines command bytes x y
-wrote_lines command bytes x y unstopped lines = record {
-  unstopped = sym (whole_reason_is command bytes) ∙ unstopped;
-  lines = subst (Appends x y) (lines_are command bytes) lines;
+wrote_lines : (play : Play) (bytes : List ℕ) (x y : Option (List ℕ)) → (course_of play).reason (whole_records bytes) ≡ None
+    → Appends x y ((course_of play).text false (whole_records bytes)) → WroteLines play bytes x y
+wrote_lines play bytes x y unstopped lines = record {
+  unstopped = sym (whole_reason_is play bytes) ∙ unstopped;
+  lines = subst (Appends x y) (lines_are play bytes) lines;
 }
 
-cut_off : (command : Command) (all : List ℕ) (left x y : Option (List ℕ)) → (read : List ℕ) × Consumes (Some all) left read × stream.CutOff (course_of command) read left x y → CutOff command all left x y
-cut_off command all left x y (read, consumed, cut) = record {
+cut_off : (play : Play) (all : List ℕ) (left x y : Option (List ℕ)) → (read : List ℕ) × Consumes (Some all) left read × stream.CutOff (course_of play) read left x y → CutOff play all left x y
+cut_off play all left x y (read, consumed, cut) = record {
   read = read;
   consumed = consumed;
   written = cut.written;
   of_read = elim cut.of_read [
-    | inl (rest, e) ↦ inl (rest, sym (lines_are command (take limit read)) ∙ e)
-    | inr (end, few, (rest, e)) ↦ inr (end, few, (rest, sym (text_is command read) ∙ e))
+    | inl (rest, e) ↦ inl (rest, sym (lines_are play (take limit read)) ∙ e)
+    | inr (end, few, (rest, e)) ↦ inr (end, few, (rest, sym (text_is play read) ∙ e))
   ];
   before = cut.ahead.before;
   piece = cut.ahead.piece;
   rest = cut.ahead.rest;
   parts = cut.ahead.parts;
   short = cut.ahead.short;
-  lines = cut.ahead.gained ∙ ap (λ (l : List ℕ). l ++ cut.ahead.rest) (lines_are command cut.ahead.before);
+  lines = cut.ahead.gained ∙ ap (λ (l : List ℕ). l ++ cut.ahead.rest) (lines_are play cut.ahead.before);
   gained = cut.gained;
 }
 
@@ -119,31 +119,31 @@ none_rose : Rose 0 0 → ⊥
 none_rose (inl lt) = omega arith
 none_rose (inr e) = omega arith
 
-runs_over : (command : Command) (all : List ℕ) (left x y : Option (List ℕ)) (e : Ended Stopped) → (e ≡ ended.Failed → Rose 0 0) → EndsOver (course_of command) all left x y e
-    → RunsOver command all left x y (status_of e)
-runs_over command all left x y ended.Done never (end, small, unstopped, text) =
-    (end, small, sym (reason_is command all) ∙ unstopped.0, subst (Appends x y) (text_is command all) text)
-runs_over command all left x y (ended.Stopped stopped.AtRecord) never (reason, text) = stopped_by command stopped.AtRecord all x y reason.0 text
-runs_over command all left x y (ended.Stopped stopped.AtLimit) never (reason, text) = inr (stopped_by command stopped.AtLimit all x y reason.0 text)
-runs_over command all left x y ended.ReadFault never (read, consumed, unstopped, lines) = (read, consumed, wrote_lines command read x y unstopped lines)
-runs_over command all left x y ended.Limit never (long, unstopped, lines) = inl (long, wrote_lines command (take limit all) x y unstopped lines)
-runs_over command all left x y ended.Memory never cut = cut_off command all left x y cut
-runs_over command all left x y ended.WriteFault never cut = cut_off command all left x y cut
-runs_over command all left x y ended.Failed never cut = none_rose (never refl)
+runs_over : (play : Play) (all : List ℕ) (left x y : Option (List ℕ)) (e : Ended Stopped) → (e ≡ ended.Failed → Rose 0 0) → EndsOver (course_of play) all left x y e
+    → RunsOver play all left x y (status_of e)
+runs_over play all left x y ended.Done never (end, small, unstopped, text) =
+    (end, small, sym (reason_is play all) ∙ unstopped.0, subst (Appends x y) (text_is play all) text)
+runs_over play all left x y (ended.Stopped stopped.AtRecord) never (reason, text) = stopped_by play stopped.AtRecord all x y reason.0 text
+runs_over play all left x y (ended.Stopped stopped.AtLimit) never (reason, text) = inr (stopped_by play stopped.AtLimit all x y reason.0 text)
+runs_over play all left x y ended.ReadFault never (read, consumed, unstopped, lines) = (read, consumed, wrote_lines play read x y unstopped lines)
+runs_over play all left x y ended.Limit never (long, unstopped, lines) = inl (long, wrote_lines play (take limit all) x y unstopped lines)
+runs_over play all left x y ended.Memory never cut = cut_off play all left x y cut
+runs_over play all left x y ended.WriteFault never cut = cut_off play all left x y cut
+runs_over play all left x y ended.Failed never cut = none_rose (never refl)
 
 -- what is said of a player that asks for nothing itself
-abbrev Said : Command → List ℕ → (left x y : Option (List ℕ)) → Ended Stopped → Type 0
-Said command all left x y e = EndsOver (course_of command) all left x y e × (length all ≤ limit → CanDecide e → e ≡ ended_for ((course_of command).reason (records_of all)))
+abbrev Said : Play → List ℕ → (left x y : Option (List ℕ)) → Ended Stopped → Type 0
+Said play all left x y e = EndsOver (course_of play) all left x y e × (length all ≤ limit → CanDecide e → e ≡ ended_for ((course_of play).reason (records_of all)))
 
-pub one_ends : {S : Type 0} (course : S → Course Stopped) (p q : S) (command : Command) (left left' x y : Option (List ℕ)) (e : Ended Stopped) → course p ≡ course_of command
-    → IfSome left (λ all. PlayedOver none_asked (one_course course) p q all left' x y e) → IfSome left (λ all. Said command all left' x y e)
-one_ends course p q command None left' x y e is h = tt
-one_ends course p q command (Some all) left' x y e is h = (h.ends (course_of command) (sym is), h.reason (course_of command) (sym is))
+pub one_ends : {S : Type 0} (course : S → Course Stopped) (p q : S) (play : Play) (left left' x y : Option (List ℕ)) (e : Ended Stopped) → course p ≡ course_of play
+    → IfSome left (λ all. PlayedOver none_asked (one_course course) p q all left' x y e) → IfSome left (λ all. Said play all left' x y e)
+one_ends course p q play None left' x y e is h = tt
+one_ends course p q play (Some all) left' x y e is h = (h.ends (course_of play) (sym is), h.reason (course_of play) (sym is))
 
-pub told_runs : (command : Command) (left left' x y : Option (List ℕ)) (e : Ended Stopped) (s : Status) → s ≡ status_of e → (e ≡ ended.Failed → Rose 0 0)
-    → IfSome left (λ all. Said command all left' x y e) → IfSome left (λ all. RunsOver command all left' x y s)
-told_runs command None left' x y e s is never h = tt
-told_runs command (Some all) left' x y e s is never h = rw is (runs_over command all left' x y e never h.0)
+pub told_runs : (play : Play) (left left' x y : Option (List ℕ)) (e : Ended Stopped) (s : Status) → s ≡ status_of e → (e ≡ ended.Failed → Rose 0 0)
+    → IfSome left (λ all. Said play all left' x y e) → IfSome left (λ all. RunsOver play all left' x y s)
+told_runs play None left' x y e s is never h = tt
+told_runs play (Some all) left' x y e s is never h = rw is (runs_over play all left' x y e never h.0)
 
 decided_for : (why : Option Stopped) → status_of (ended_for why) ≡ status_by why
 decided_for None = refl
@@ -153,13 +153,13 @@ decided_for (Some why) = refl
 can_decide : (e : Ended Stopped) (A B : Type 0) → status_of e ≢ status.Memory → (e ≡ ended.ReadFault → A) → (e ≡ ended.WriteFault → B) → (e ≡ ended.Failed → Rose 0 0) → (A → ⊥) → (B → ⊥) → CanDecide e
 can_decide e A B nm read write never na nb = ((λ is. nm (ap status_of is)), ((λ is. na (read is)), ((λ is. nb (write is)), (λ is. none_rose (never is)))))
 
-pub told_decided : (command : Command) (left left' x y : Option (List ℕ)) (e : Ended Stopped) (s : Status) (A B : Type 0) → s ≡ status_of e
+pub told_decided : (play : Play) (left left' x y : Option (List ℕ)) (e : Ended Stopped) (s : Status) (A B : Type 0) → s ≡ status_of e
     → (e ≡ ended.ReadFault → A) → (e ≡ ended.WriteFault → B) → (e ≡ ended.Failed → Rose 0 0)
-    → IfSome left (λ all. Said command all left' x y e)
-    → IfSome left (λ all. length all ≤ limit → (A → ⊥) → (B → ⊥) → s ≢ status.Memory → s ≡ status_by (stop_of command all))
-told_decided command None left' x y e s A B is read write never h = tt
-told_decided command (Some all) left' x y e s A B is read write never h = λ small na nb nm.
-    is ∙ ap status_of (h.1 small (can_decide e A B (λ m. nm (is ∙ m)) read write never na nb)) ∙ decided_for ((course_of command).reason (records_of all)) ∙ ap status_by (reason_is command all)
+    → IfSome left (λ all. Said play all left' x y e)
+    → IfSome left (λ all. length all ≤ limit → (A → ⊥) → (B → ⊥) → s ≢ status.Memory → s ≡ status_by (stop_of play all))
+told_decided play None left' x y e s A B is read write never h = tt
+told_decided play (Some all) left' x y e s A B is read write never h = λ small na nb nm.
+    is ∙ ap status_of (h.1 small (can_decide e A B (λ m. nm (is ∙ m)) read write never na nb)) ∙ decided_for ((course_of play).reason (records_of all)) ∙ ap status_by (reason_is play all)
 
 pub never_field : (e : Ended Stopped) (s : Status) → s ≡ status_of e → (e ≡ ended.Failed → Rose 0 0) → s ≢ status.FieldFault
 never_field ended.Done s is never f = cc (sym is ∙ f)
@@ -171,34 +171,44 @@ never_field ended.Memory s is never f = cc (sym is ∙ f)
 never_field ended.WriteFault s is never f = cc (sym is ∙ f)
 never_field ended.Failed s is never f = none_rose (never refl)
 
+pub never_frame : (e : Ended Stopped) (s : Status) → s ≡ status_of e → s ≢ status.Frame
+never_frame ended.Done s is f = cc (sym is ∙ f)
+never_frame (ended.Stopped stopped.AtRecord) s is f = cc (sym is ∙ f)
+never_frame (ended.Stopped stopped.AtLimit) s is f = cc (sym is ∙ f)
+never_frame ended.ReadFault s is f = cc (sym is ∙ f)
+never_frame ended.Limit s is f = cc (sym is ∙ f)
+never_frame ended.Memory s is f = cc (sym is ∙ f)
+never_frame ended.WriteFault s is f = cc (sym is ∙ f)
+never_frame ended.Failed s is f = cc (sym is ∙ f)
+
 -- ---- nothing was read
 
-no_lines : (command : Command) → lines_of command [] ≡ []
+no_lines : (play : Play) → lines_of play [] ≡ []
 unfolding whole_lines text_from all_written
 no_lines Replay = refl
 no_lines (Table rows) = refl
 
-cut_before : (command : Command) (all : List ℕ) (x : Option (List ℕ)) → CutOff command all (Some all) x x
-cut_before command all x = record {
+cut_before : (play : Play) (all : List ℕ) (x : Option (List ℕ)) → CutOff play all (Some all) x x
+cut_before play all x = record {
   read = [];
   consumed = refl;
   written = [];
-  of_read = inl (lines_of command (take limit []), refl);
+  of_read = inl (lines_of play (take limit []), refl);
   before = [];
   piece = [];
   rest = [];
   parts = refl;
   short = omega arith;
-  lines = sym (append-nil (lines_of command []) ∙ no_lines command);
+  lines = sym (append-nil (lines_of play []) ∙ no_lines play);
   gained = Appends-nil x;
 }
 
-pub unread_run : (command : Option Command) (left x : Option (List ℕ)) → IfSome command (λ command. IfSome left (λ all. CutOff command all left x x))
+pub unread_run : (play : Option Play) (left x : Option (List ℕ)) → IfSome play (λ play. IfSome left (λ all. CutOff play all left x x))
 unread_run None left x = tt
-unread_run (Some command) None x = tt
-unread_run (Some command) (Some all) x = cut_before command all x
+unread_run (Some play) None x = tt
+unread_run (Some play) (Some all) x = cut_before play all x
 
 -- ---- one status
 
-pub at_status : (command : Command) (left left' x y : Option (List ℕ)) (s t : Status) → s ≡ t → IfSome left (λ all. RunsOver command all left' x y s) → IfSome left (λ all. RunsOver command all left' x y t)
-at_status command left left' x y s t is h = subst (λ (s : Status). IfSome left (λ all. RunsOver command all left' x y s)) is h
+pub at_status : (play : Play) (left left' x y : Option (List ℕ)) (s t : Status) → s ≡ t → IfSome left (λ all. RunsOver play all left' x y s) → IfSome left (λ all. RunsOver play all left' x y t)
+at_status play left left' x y s t is h = subst (λ (s : Status). IfSome left (λ all. RunsOver play all left' x y s)) is h

@@ -3,25 +3,26 @@ use Rattle.std.proofs.Common.{◌≡◌, refl, ℕ, List, [], ◌∷◌, codes, 
 use Rattle.clap.proofs.OnLiterals.{clap_on_literals}
 use Rattle.svr2_run.specs.Words.{command_of}
 use Rattle.svr2_run.specs.declared.words.Command.{Command}
-use Rattle.svr2_run.specs.declared.words.Command.TheVariants.{Replay, Table}
+use Rattle.svr2_run.specs.declared.words.Command.TheVariants.{Play}
+use Rattle.svr2_run.specs.declared.words.Play.TheVariants.{Replay, Table}
 
 -- the command of `table` with these words behind it
 abbrev table : List (List ℕ) → Option Command
 table words = command_of (codes "table" ∷ words)
 
-usual : table [] ≡ Some (Table 10000)
+usual : table [] ≡ Some (Play (Table 10000))
 unfolding clap_on_literals
 usual = refl
 
-in_one_word : table (codes "--rows=5" ∷ []) ≡ Some (Table 5)
+in_one_word : table (codes "--rows=5" ∷ []) ≡ Some (Play (Table 5))
 unfolding clap_on_literals
 in_one_word = refl
 
-in_two_words : table (codes "--rows" ∷ codes "20000" ∷ []) ≡ Some (Table 20000)
+in_two_words : table (codes "--rows" ∷ codes "20000" ∷ []) ≡ Some (Play (Table 20000))
 unfolding clap_on_literals
 in_two_words = refl
 
-end_of_options : table (codes "--rows" ∷ codes "1" ∷ codes "--" ∷ []) ≡ Some (Table 1)
+end_of_options : table (codes "--rows" ∷ codes "1" ∷ codes "--" ∷ []) ≡ Some (Play (Table 1))
 unfolding clap_on_literals
 end_of_options = refl
 
@@ -65,11 +66,11 @@ help_is_no_command : table (codes "--help" ∷ []) ≡ None
 unfolding clap_on_literals
 help_is_no_command = refl
 
-replays : command_of (codes "replay" ∷ []) ≡ Some Replay
+replays : command_of (codes "replay" ∷ []) ≡ Some (Play Replay)
 unfolding clap_on_literals
 replays = refl
 
-replays_with_end : command_of (codes "replay" ∷ codes "--" ∷ []) ≡ Some Replay
+replays_with_end : command_of (codes "replay" ∷ codes "--" ∷ []) ≡ Some (Play Replay)
 unfolding clap_on_literals
 replays_with_end = refl
 

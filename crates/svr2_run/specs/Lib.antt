@@ -5,3 +5,4 @@ pub mod Trace
 pub mod Worlds
 pub mod Run
 pub mod Openings
+pub mod Sessions

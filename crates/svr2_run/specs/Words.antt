@@ -1,10 +1,16 @@
 -- What the words of the command line mean.
 use Rattle.std.specs.Prelude.{ℕ, ◌≤◌, ⊤, if◌then◌else◌, List, [], ◌∷◌, Option, Some, None, option_map, option_and_then, Result, Ok, Err, codes, bytes_eq, fold}
 use Rattle.clap.specs.Words.{App, Row, fault_of, first_of, matches_of, new_app, new_rule, with_rule}
+use Rattle.hex.specs.Hex.{decode_sized}
+use Rattle.hex.specs.declared.error.FromHexError.{FromHexError}
 use Rattle.values.specs.declared.limits.TheConstants.{MOST_ROWS}
+use Rattle.trace_model.specs.Session.{Tagging, untagged, tagged_by}
+use Rattle.link_tags.specs.Hmac.{hmac_of}
 use Rattle.schedule_model.specs.Reading.{number_of, RecordFault}
 use Rattle.svr2_run.specs.declared.words.Command.{Command}
-use Rattle.svr2_run.specs.declared.words.Command.TheVariants.{Replay, Table}
+use Rattle.svr2_run.specs.declared.words.Command.TheVariants.{Play, Serve, Tagged}
+use Rattle.svr2_run.specs.declared.words.Play as what
+use Rattle.svr2_run.specs.declared.words.Play.TheVariants.{Replay, Table}
 
 -- the simple command of a name with one option of this name, which takes a value
 abbrev pub with_option : App → List ℕ → App
@@ -24,7 +30,7 @@ abbrev pub replay_app : App
 replay_app = new_app (codes "replay")
 
 abbrev pub replay_of : List (List ℕ) → Option Command
-replay_of words = option_map (λ rows. Replay) (matched replay_app words)
+replay_of words = option_map (λ rows. Play Replay) (matched replay_app words)
 
 -- `table`, with the option `rows`
 abbrev pub table_app : App
@@ -44,7 +50,30 @@ limit_of None = Some usual_rows
 limit_of (Some text) = number_in (number_of text 0 1 MOST_ROWS)
 
 abbrev pub table_of : List (List ℕ) → Option Command
-table_of words = option_map Table (option_and_then (λ rows. limit_of (first_of (codes "rows") rows)) (matched table_app words))
+table_of words = option_map (λ limit. Play (Table limit)) (option_and_then (λ rows. limit_of (first_of (codes "rows") rows)) (matched table_app words))
+
+-- `serve`, without options
+abbrev pub serve_app : App
+serve_app = new_app (codes "serve")
+
+abbrev pub serve_of : List (List ℕ) → Option Command
+serve_of words = option_map (λ rows. Serve) (matched serve_app words)
+
+-- `tagged`, with the option `key`
+abbrev pub tagged_app : App
+tagged_app = with_option (new_app (codes "tagged")) (codes "key")
+
+abbrev pub bytes_in : Result (List ℕ) FromHexError → Option (List ℕ)
+bytes_in (Ok bytes) = Some bytes
+bytes_in (Err fault) = None
+
+-- the key that the option's value says: 64 hexadecimal digits
+abbrev pub key_of : Option (List ℕ) → Option (List ℕ)
+key_of None = None
+key_of (Some text) = bytes_in (decode_sized text 32)
+
+abbrev pub tagged_of : List (List ℕ) → Option Command
+tagged_of words = option_map Tagged (option_and_then (λ rows. key_of (first_of (codes "key") rows)) (matched tagged_app words))
 
 -- the command, by the first word
 abbrev pub command_of : List (List ℕ) → Option Command
@@ -52,9 +81,36 @@ command_of [] = None
 command_of (name ∷ words) =
     if bytes_eq name (codes "replay") then replay_of (name ∷ words)
     else if bytes_eq name (codes "table") then table_of (name ∷ words)
+    else if bytes_eq name (codes "serve") then serve_of (name ∷ words)
+    else if bytes_eq name (codes "tagged") then tagged_of (name ∷ words)
     else None
 
--- the limit of a command is one that a table can have
-abbrev pub HasLimit : Command → Type 0
+-- what the words play from the source, where they do
+abbrev pub play_in : Option Command → Option what.Play
+play_in (Some (Play play)) = Some play
+play_in (Some Serve) = None
+play_in (Some (Tagged key)) = None
+play_in None = None
+
+abbrev pub play_of : List (List ℕ) → Option what.Play
+play_of words = play_in (command_of words)
+
+-- how the frames of the session are tagged that the words serve, where they do
+abbrev pub tagging_in : Option Command → Option Tagging
+tagging_in (Some (Play play)) = None
+tagging_in (Some Serve) = Some untagged
+tagging_in (Some (Tagged key)) = Some (tagged_by (hmac_of key))
+tagging_in None = None
+
+abbrev pub tagging_of : List (List ℕ) → Option Tagging
+tagging_of words = tagging_in (command_of words)
+
+-- the limit of a table is one that it can have
+abbrev pub HasLimit : what.Play → Type 0
 HasLimit Replay = ⊤
 HasLimit (Table limit) = (1 ≤ limit) × (limit ≤ MOST_ROWS)
+
+abbrev pub HasLimits : Command → Type 0
+HasLimits (Play play) = HasLimit play
+HasLimits Serve = ⊤
+HasLimits (Tagged key) = ⊤

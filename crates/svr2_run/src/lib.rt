@@ -8,6 +8,8 @@ mod form;
 mod lines;
 mod number;
 mod player;
+#[cfg(test)]
+mod session_tests;
 mod state;
 #[cfg(test)]
 mod table_tests;

@@ -12,13 +12,25 @@ use svr_base::{MOST_ROWS, Memory};
 /// How many rows the table of `table` may hold where its words do not say.
 const USUAL_ROWS: u32 = 10_000;
 
-/// A command, with what its words say.
+/// What is played from the source.
 #[derive(Clone, Copy, Debug, PartialEq, Eq)]
-pub enum Command {
-    /// Plays a schedule.
+pub enum Play {
+    /// A schedule.
     Replay,
-    /// Applies requests to one table of this limit.
+    /// Requests to one table of this limit.
     Table { limit: u32 },
+}
+
+/// A command, with what its words say.
+// No `Debug`: a key is never printed.
+#[derive(Clone, Copy)]
+pub enum Command {
+    /// Plays the records of the source.
+    Play(Play),
+    /// Serves one enclave over the frames of the source.
+    Serve,
+    /// Serves one enclave over frames that are tagged under this key.
+    Tagged { key: [u8; 32] },
 }
 
 /// The limit of rows that an option's value says, or the usual one.
@@ -54,7 +66,7 @@ fn read_replay(alloc: Global, words: &[String]) -> Result<Option<Command>, Memor
 {
     let replay = clap::Command::new(alloc, "replay");
     match replay.try_get_matches_from(words) {
-        Ok(_matches) => Ok(Some(Command::Replay)),
+        Ok(_matches) => Ok(Some(Command::Play(Play::Replay))),
         Err(error) => refusal(error.kind()),
     }
 }
@@ -70,7 +82,46 @@ fn read_table(alloc: Global, words: &[String]) -> Result<Option<Command>, Memory
             let Some(limit) = limit_of(matches.get_str("rows")) else {
                 return Ok(None);
             };
-            Ok(Some(Command::Table { limit }))
+            Ok(Some(Command::Play(Play::Table { limit })))
+        }
+        Err(error) => refusal(error.kind()),
+    }
+}
+
+/// The words of `serve`: it has no option.
+fn read_serve(alloc: Global, words: &[String]) -> Result<Option<Command>, Memory>
+    ensures { IfOk result (λ command. command ≡ spec.serve_of (map string_bytes words.now)) }
+{
+    let serve = clap::Command::new(alloc, "serve");
+    match serve.try_get_matches_from(words) {
+        Ok(_matches) => Ok(Some(Command::Serve)),
+        Err(error) => refusal(error.kind()),
+    }
+}
+
+/// The key that an option's value says: 64 hexadecimal digits, in either case.
+fn key_of(key: Option<&str>) -> Option<[u8; 32]>
+    ensures { result ≡ spec.key_of (option_map (λ text. text.now) key.entry) }
+{
+    let mut bytes = [0; 32];
+    match hex::decode_to_slice(key?.as_bytes(), &mut bytes) {
+        Ok(()) => Some(bytes),
+        Err(_) => None,
+    }
+}
+
+/// The words of `tagged`: it needs the option `key`.
+fn read_tagged(alloc: Global, words: &[String]) -> Result<Option<Command>, Memory>
+    ensures { IfOk result (λ command. command ≡ spec.tagged_of (map string_bytes words.now)) }
+{
+    let key = Arg::new(alloc, "key").long("key");
+    let tagged = clap::Command::new(alloc, "tagged").arg(key)?;
+    match tagged.try_get_matches_from(words) {
+        Ok(matches) => {
+            let Some(key) = key_of(matches.get_str("key")) else {
+                return Ok(None);
+            };
+            Ok(Some(Command::Tagged { key }))
         }
         Err(error) => refusal(error.kind()),
     }
@@ -79,7 +130,7 @@ fn read_table(alloc: Global, words: &[String]) -> Result<Option<Command>, Memory
 /// The command that the words mean: the first is its name, and those after it are its options.
 pub fn read_words(alloc: Global, words: &[String]) -> Result<Option<Command>, Memory>
     ensures command { IfOk result (λ command. command ≡ spec.command_of (map string_bytes words.now)) }
-    ensures limit { IfOk result (λ command. IfSome command spec.HasLimit) }
+    ensures limit { IfOk result (λ command. IfSome command spec.HasLimits) }
 {
     let Some(name) = words.first() else {
         return Ok(None);
@@ -87,6 +138,8 @@ pub fn read_words(alloc: Global, words: &[String]) -> Result<Option<Command>, Me
     match name.as_str() {
         "replay" => read_replay(alloc, words),
         "table" => read_table(alloc, words),
+        "serve" => read_serve(alloc, words),
+        "tagged" => read_tagged(alloc, words),
         _ => Ok(None),
     }
 }

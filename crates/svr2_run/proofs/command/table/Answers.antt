@@ -1,7 +1,7 @@
 use Rattle.std.proofs.Common.{ap}
 use Rattle.table_command.specs.Course.{course_from}
-use Rattle.svr2_run.specs.declared.words.Command.TheVariants.{Table}
-use Rattle.svr2_run.proofs.Runs.{never_field, one_ends, told_decided, told_runs}
+use Rattle.svr2_run.specs.declared.words.Play.TheVariants.{Table}
+use Rattle.svr2_run.proofs.Runs.{never_field, never_frame, one_ends, told_decided, told_runs}
 use Rattle.svr2_run.proofs.command.table.Goals as goal
 
 pub returns-clause-runs : goal.returns-clause-runs
@@ -16,3 +16,6 @@ returns-clause-decided g c =
 
 pub returns-clause-never_field : goal.returns-clause-never_field
 returns-clause-never_field g c = never_field c.play_source.result c.status_of.result c.status_of.ensures c.play_source.ensures.own_cause
+
+pub returns-clause-never_frame : goal.returns-clause-never_frame
+returns-clause-never_frame g c = never_frame c.play_source.result c.status_of.result c.status_of.ensures

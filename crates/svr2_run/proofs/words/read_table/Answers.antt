@@ -1,7 +1,8 @@
 use Rattle.std.proofs.Common.{rules, refl, ap, ap₂, sym, ◌∙◌, ◌≡◌, codes, map, string_bytes, option_map, Some}
 use Rattle.clap.specs.Words.{Rule, app_of, new_rule, rule_of, with_rule}
 use Rattle.svr2_run.specs.Words.{limit_of, table_app}
-use Rattle.svr2_run.specs.declared.words.Command.TheVariants.{Table}
+use Rattle.svr2_run.specs.declared.words.Command.TheVariants.{Play}
+use Rattle.svr2_run.specs.declared.words.Play.TheVariants.{Table}
 use Rattle.std.specs.Prelude.{option_and_then}
 use Rattle.clap.specs.Words.{first_of}
 use Rattle.svr2_run.proofs.Parses.{refused, taken, table_is, value_is}
@@ -16,7 +17,7 @@ returns-in-Err c =
     let option : rule_of c.long-rows.result ≡ rows = search rules in
     let app : app_of c.in_ok-table.table ≡ table_app = c.in_ok-table.ensures.shape (search rules) ∙ ap₂ with_rule c.new-2.ensures.app option in
     refused (app_of c.in_ok-table.table) table_app (map string_bytes c.args.words.now) c.in-Err.error c.refusal.result
-    (λ found. option_map Table (option_and_then (λ rows. limit_of (first_of (codes "rows") rows)) found)) app refl
+    (λ found. option_map (λ limit. Play (Table limit)) (option_and_then (λ rows. limit_of (first_of (codes "rows") rows)) found)) app refl
     c.in-Err.ensures.kinds refl c.refusal.ensures.none (rw c.kind.ensures at c.refusal.ensures.refused)
 
 pub returns-in_default : goal.returns-in_default
