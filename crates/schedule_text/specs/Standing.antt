@@ -13,6 +13,10 @@ pub record Standing : Type 0 where
 abbrev pub start : Bool → Standing
 start driven = record { driven = driven; begun = false; records = 0 }
 
+-- where the group has begun before the first record
+abbrev pub in_group : Standing
+in_group = record (start false) { begun = true }
+
 abbrev pub begins : Option Event → Bool
 begins (Some (event.Begin margin limit voters)) = true
 begins other = false

@@ -18,6 +18,7 @@ mod word;
 
 pub use fault::{RecordFault, Stopped, Unread};
 pub use field::{client_of, hex_of};
+pub use hexadecimal::is_hexadecimal;
 pub use laws::lines_are_joined;
 pub use line::{cause_word, limit_line, part_word, push_field, push_hex, push_number, record_line};
 pub use number::number_of;

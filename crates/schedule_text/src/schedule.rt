@@ -3,7 +3,7 @@ ghost use Rattle.std.specs.Prelude.{◌≡◌, ◌<◌, ◌^◌, true, false, If
 ghost use Rattle.record_cutting.specs.Lines.{record_of};
 ghost use Rattle.schedule_model.specs.Records as spec;
 ghost use Rattle.schedule_text.specs.Read.{Reads};
-ghost use Rattle.schedule_text.specs.Standing.{past, start};
+ghost use Rattle.schedule_text.specs.Standing.{in_group, past, start};
 
 use crate::fault::{RecordFault, Unread};
 use crate::field::field;
@@ -50,6 +50,16 @@ impl Schedule {
     {
         Schedule {
             driven: true,
+            ..Schedule::new(alloc)
+        }
+    }
+
+    /// No record was read here, and the group has begun before. `again` is no word of this schedule.
+    pub fn in_group(alloc: Global) -> Schedule
+        ensures { result ≡ in_group }
+    {
+        Schedule {
+            begun: true,
             ..Schedule::new(alloc)
         }
     }
