@@ -1,10 +1,8 @@
 -- Where a fault is passed on, its cause stands.
-use Rattle.std.proofs.Common.{arith, refl, sym, ap, ◌∙◌, ◌≡◌, ◌≢◌, ◌≤◌, ℕ, List, Option, Result, Err}
+use Rattle.std.proofs.Common.{arith, refl, sym, ap, ◌∙◌, ◌≡◌, ◌≢◌, ◌≤◌, ℕ, Result, Err}
 use Rattle.byte_streams.specs.Causes.{HasCauseAt}
 use Rattle.byte_streams.proofs.Rises.{Rose-after}
-use Rattle.record_cutting.specs.Lines.{Record}
-use Rattle.record_stream.specs.Course.{Course}
-use Rattle.record_stream.specs.Steps.{Finishes, ended_by}
+use Rattle.record_stream.specs.Steps.{ended_by}
 use Rattle.record_stream.specs.declared.player.Stop.{Stop}
 use Rattle.record_stream.specs.declared.player.Stop.TheVariants as stop
 use Rattle.record_stream.specs.declared.source.Ended.{Ended}
@@ -17,16 +15,6 @@ cause_passed fault e a b c q r le was is h = record {
   later = let later = h.later in omega arith;
   failed = λ same. let one : e ≡ fault = cc (sym is ∙ same) in Rose-after a b c le (h.failed (was ∙ ap Err one));
 }
-
--- the last records and the closing lines read nothing
-pub finish_reads : {R : Type 0} (a : Course R) (rs : List Record) (x y : Option (List ℕ)) (r : Ended R) → Finishes a rs x y r → r ≢ ended.ReadFault
-finish_reads a rs x y ended.Done h e = cc e
-finish_reads a rs x y (ended.Stopped why) h e = cc e
-finish_reads a rs x y ended.Memory h e = cc e
-finish_reads a rs x y ended.WriteFault h e = cc e
-finish_reads a rs x y ended.Failed h e = cc e
-finish_reads a rs x y ended.ReadFault h e = absurd h
-finish_reads a rs x y ended.Limit h e = absurd h
 
 -- a player's stop is no fault of the source
 pub stop_reads : {R : Type 0} (e : Stop R) (r : Ended R) → r ≡ ended_by e → r ≢ ended.ReadFault

@@ -4,9 +4,11 @@ use Rattle.record_cutting.specs.Lines.{Record}
 use Rattle.record_stream.specs.declared.player.Stop.{Stop}
 use Rattle.record_stream.specs.declared.player.Stop.TheVariants as stop
 
--- the course of a player from some state: the text that it writes for records, with its closing lines or without
--- them, why one of the records stops it, where one does, and whether they ask for all that the player is answered
-pub record Course (R : Type 0) : Type 0 where
+-- The course of a player from some state on: of records of which it holds, the text that it writes for them, with its
+-- closing lines or without them, why one of them stops it, where one does, and whether they ask for exactly what the
+-- player is answered. Of other records it says nothing.
+pub record Course (R : Type 0) : Type 1 where
+  pub holds : List Record → Type 0
   pub text : Bool → List Record → List ℕ
   pub reason : List Record → Option R
   pub takes_all : List Record → Bool
@@ -22,60 +24,61 @@ Adds text old new (Err e) = (written rest : List ℕ) × (text ≡ written ++ re
 
 -- these records are played and write this text; what follows takes that course
 pub record Goes {R : Type 0} (a : Course R) (rs : List Record) (b : Course R) (written : List ℕ) : Type 0 where
-  pub text : (closed : Bool) (more : List Record) → a.text closed (rs ++ more) ≡ written ++ b.text closed more
-  pub reason : (more : List Record) → a.reason (rs ++ more) ≡ b.reason more
-  pub takes_all : (more : List Record) → a.takes_all (rs ++ more) ≡ b.takes_all more
+  pub holds : (more : List Record) → a.holds (rs ++ more) → b.holds more
+  pub text : (closed : Bool) (more : List Record) → a.holds (rs ++ more) → a.text closed (rs ++ more) ≡ written ++ b.text closed more
+  pub reason : (more : List Record) → a.holds (rs ++ more) → a.reason (rs ++ more) ≡ b.reason more
+  pub takes_all : (more : List Record) → a.holds (rs ++ more) → a.takes_all (rs ++ more) ≡ b.takes_all more
 
 -- one of these records stops the player, and its text ends there, whatever follows
 pub record Stops {R : Type 0} (a : Course R) (rs : List Record) (why : R) (written : List ℕ) : Type 0 where
-  pub text : (closed : Bool) (more : List Record) → a.text closed (rs ++ more) ≡ written
-  pub reason : (more : List Record) → a.reason (rs ++ more) ≡ Some why
-  pub takes_all : (more : List Record) → a.takes_all (rs ++ more) ≡ true
+  pub text : (closed : Bool) (more : List Record) → a.holds (rs ++ more) → a.text closed (rs ++ more) ≡ written
+  pub reason : (more : List Record) → a.holds (rs ++ more) → a.reason (rs ++ more) ≡ Some why
+  pub takes_all : (more : List Record) → a.holds (rs ++ more) → a.takes_all (rs ++ more) ≡ true
 
 -- the text begins with these bytes, whatever follows
 pub record Begins {R : Type 0} (a : Course R) (rs : List Record) (written : List ℕ) : Type 0 where
-  pub text : (closed : Bool) (more : List Record) → (rest : List ℕ) × (a.text closed (rs ++ more) ≡ written ++ rest)
+  pub text : (closed : Bool) (more : List Record) → a.holds (rs ++ more) → (rest : List ℕ) × (a.text closed (rs ++ more) ≡ written ++ rest)
 
 -- the text is this, whatever follows
 pub record Is {R : Type 0} (a : Course R) (rs : List Record) (written : List ℕ) : Type 0 where
-  pub text : (closed : Bool) (more : List Record) → a.text closed (rs ++ more) ≡ written
+  pub text : (closed : Bool) (more : List Record) → a.holds (rs ++ more) → a.text closed (rs ++ more) ≡ written
 
--- What courses a player may take from here on, by what it asks for itself: these answers come, and no others are asked for;
--- or these come, and what is asked next fails.
+-- Which ways a player may take from here on, by what it asks for itself: these answers come, and no others are asked for;
+-- or these come, and what is asked next fails. Each way has its course.
 abbrev pub Outlook : Type 0 → Type 0 → Type 1
-Outlook R G = Bool → List G → Course R → Type 0
+Outlook W G = Bool → List G → W → Type 0
 
 -- what a player got for itself between two states, as a history does
 pub record IsHistory {S G : Type 0} (gains : S → S → List G → Type 0) : Type 0 where
   pub none : (p : S) → gains p p []
   pub then : (p q r : S) (gs hs : List G) → gains p q gs → gains q r hs → gains p r (gs ++ hs)
 
--- of a player, what it got between two states and what courses it may take
-module _ {S R G : Type 0} (gains : S → S → List G → Type 0) (takes : S → Outlook R G) where
-  -- these records are played and write this text, on each course that the answers to come allow
+-- of a player, what it got between two states, which ways it may take, and the course of each
+module _ {S R W G : Type 0} (gains : S → S → List G → Type 0) (takes : S → Outlook W G) (course : W → Course R) where
+  -- these records are played and write this text, on each way that the answers to come allow
   pub record Advances (p : S) (rs : List Record) (q : S) (written : List ℕ) : Type 0 where
     pub given : List G
     pub gained : gains p q given
-    pub goes : (fails : Bool) (later : List G) (a : Course R) → takes p fails (given ++ later) a → (b : Course R) × Goes a rs b written × takes q fails later b
+    pub goes : (fails : Bool) (later : List G) (w : W) → takes p fails (given ++ later) w → (v : W) × Goes (course w) rs (course v) written × takes q fails later v
 
   -- one of these records stops the player
   pub record Halts (p : S) (rs : List Record) (q : S) (why : R) (written : List ℕ) : Type 0 where
     pub given : List G
     pub gained : gains p q given
-    pub stops : (a : Course R) → takes p false given a → Stops a rs why written
+    pub stops : (w : W) → takes p false given w → Stops (course w) rs why written
 
   -- the text begins so
   pub record Cuts (p : S) (rs : List Record) (q : S) (written : List ℕ) : Type 0 where
     pub given : List G
     pub gained : gains p q given
-    pub begins : (a : Course R) → takes p false given a → Begins a rs written
+    pub begins : (w : W) → takes p false given w → Begins (course w) rs written
 
   -- what the player asked for itself failed, and the text is exactly the one up to there
   pub record Fails (p : S) (rs : List Record) (q : S) (written : List ℕ) : Type 0 where
     pub given : List G
     pub gained : gains p q given
-    pub is : (a : Course R) → takes p true given a → Is a rs written
-    pub begins : (a : Course R) → takes p false given a → Begins a rs written
+    pub is : (w : W) → takes p true given w → Is (course w) rs written
+    pub begins : (w : W) → takes p false given w → Begins (course w) rs written
 
   -- what became of records, and by what text the lines grew
   abbrev pub PlaysTo : {T : Type 0} → S → List Record → S → List ℕ → List ℕ → Result T (Stop R) → Type 0
@@ -84,6 +87,6 @@ module _ {S R G : Type 0} (gains : S → S → List G → Type 0) (takes : S →
   PlaysTo p rs q old new (Err stop.Memory) = (written : List ℕ) × Cuts p rs q written × Grows old new written
   PlaysTo p rs q old new (Err stop.Failed) = (written : List ℕ) × Fails p rs q written × Grows old new written
 
-  -- the closing lines: one text, on each course
+  -- the closing lines: one text, on each way
   pub record Closes (p : S) (text : List ℕ) : Type 0 where
-    pub text_is : (fails : Bool) (a : Course R) → takes p fails [] a → a.text true [] ≡ text
+    pub text_is : (fails : Bool) (w : W) → takes p fails [] w → (course w).holds [] → (course w).text true [] ≡ text

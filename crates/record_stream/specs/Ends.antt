@@ -22,7 +22,7 @@ pub record ReadAhead {R : Type 0} (a : Course R) (read written : List ℕ) : Typ
   pub rest : List ℕ
   pub parts : read ≡ before ++ piece
   pub short : length piece ≤ piece_size
-  pub gained : written ≡ a.text false (whole_records before) ++ rest
+  pub gained : a.holds (whole_records before) → written ≡ a.text false (whole_records before) ++ rest
 
 -- these are first bytes of a text
 abbrev pub IsFrontOf : (written text : List ℕ) → Type 0
@@ -32,8 +32,8 @@ IsFrontOf written text = (rest : List ℕ) × (text ≡ written ++ rest)
 -- where all was read, of these and the closing lines
 abbrev pub IsOfRead : {R : Type 0} → Course R → (read : List ℕ) → Option (List ℕ) → List ℕ → Type 0
 IsOfRead a read left written =
-    IsFrontOf written (a.text false (whole_records (take limit read)))
-    ⊎ (IsAtEnd left × (length read ≤ limit) × IsFrontOf written (a.text true (records_of read)))
+    (a.holds (whole_records (take limit read)) → IsFrontOf written (a.text false (whole_records (take limit read))))
+    ⊎ (IsAtEnd left × (length read ≤ limit) × (a.holds (records_of read) → IsFrontOf written (a.text true (records_of read))))
 
 -- the sink gained such bytes, and all lines but those that the last piece ended
 pub record CutOff {R : Type 0} (a : Course R) (read : List ℕ) (left old new : Option (List ℕ)) : Type 0 where
@@ -42,25 +42,28 @@ pub record CutOff {R : Type 0} (a : Course R) (read : List ℕ) (left old new : 
   pub ahead : ReadAhead a read written
   pub gained : Appends old new written
 
--- no record stopped the player, or one did for this reason; and they asked for all that it was answered
+-- no record stopped the player, or one did for this reason; and they asked for exactly what it was answered
 abbrev pub Unstopped : {R : Type 0} → Course R → List Record → Type 0
 Unstopped a rs = (a.reason rs ≡ None) × (a.takes_all rs ≡ true)
 
 abbrev pub StoppedFor : {R : Type 0} → Course R → List Record → R → Type 0
 StoppedFor a rs why = (a.reason rs ≡ Some why) × (a.takes_all rs ≡ true)
 
--- how the playing of a source ended that held all these bytes, with what the source has left and what the sink gained
+-- no record that stands whole in these bytes stopped the player, and the sink gained the lines of all of them
+abbrev pub WroteWhole : {R : Type 0} → Course R → List ℕ → Option (List ℕ) → Option (List ℕ) → Type 0
+WroteWhole a bytes old new =
+    a.holds (whole_records bytes) → Unstopped a (whole_records bytes) × Appends old new (a.text false (whole_records bytes))
+
+-- How the playing of a source ended that held all these bytes, with what the source has left and what the sink gained.
+-- What records made of it is said of those of which the course holds.
 abbrev pub EndsOver : {R : Type 0} → Course R → List ℕ → Option (List ℕ) → Option (List ℕ) → Option (List ℕ) → Ended R → Type 0
 EndsOver a all left old new ended.Done =
-    (left ≡ Some []) × (length all ≤ limit) × Unstopped a (records_of all) × Appends old new (a.text true (records_of all))
+    (left ≡ Some []) × (length all ≤ limit)
+    × (a.holds (records_of all) → Unstopped a (records_of all) × Appends old new (a.text true (records_of all)))
 EndsOver a all left old new (ended.Stopped why) =
-    StoppedFor a (records_of all) why × Appends old new (a.text true (records_of all))
-EndsOver a all left old new ended.ReadFault =
-    (read : List ℕ) × Consumes (Some all) left read
-    × (a.reason (whole_records read) ≡ None) × Appends old new (a.text false (whole_records read))
-EndsOver a all left old new ended.Limit =
-    (limit < length all)
-    × (a.reason (whole_records (take limit all)) ≡ None) × Appends old new (a.text false (whole_records (take limit all)))
+    a.holds (records_of all) → StoppedFor a (records_of all) why × Appends old new (a.text true (records_of all))
+EndsOver a all left old new ended.ReadFault = (read : List ℕ) × Consumes (Some all) left read × WroteWhole a read old new
+EndsOver a all left old new ended.Limit = (limit < length all) × WroteWhole a (take limit all) old new
 EndsOver a all left old new ended.WriteFault = (read : List ℕ) × Consumes (Some all) left read × CutOff a read left old new
 EndsOver a all left old new ended.Memory = (read : List ℕ) × Consumes (Some all) left read × CutOff a read left old new
 EndsOver a all left old new ended.Failed = (read : List ℕ) × Consumes (Some all) left read × CutOff a read left old new
@@ -74,11 +77,13 @@ ended_for (Some why) = ended.Stopped why
 abbrev pub CanDecide : {R : Type 0} → Ended R → Type 0
 CanDecide result = (result ≢ ended.Memory) × ((result ≢ ended.ReadFault) × ((result ≢ ended.WriteFault) × (result ≢ ended.Failed)))
 
--- How the playing ended of a player, by what it got for itself: on each course that these answers allow; and where what it
+-- How the playing ended of a player, by what it got for itself: on each way that these answers allow; and where what it
 -- asked failed, the text is exactly the one up to there.
-pub record PlayedOver {S R G : Type 0} (gains : S → S → List G → Type 0) (takes : S → Outlook R G) (p q : S) (all : List ℕ) (left old new : Option (List ℕ)) (result : Ended R) : Type 0 where
+pub record PlayedOver {S R W G : Type 0} (gains : S → S → List G → Type 0) (takes : S → Outlook W G) (course : W → Course R) (p q : S) (all : List ℕ) (left old new : Option (List ℕ)) (result : Ended R) : Type 0 where
   pub given : List G
   pub gained : gains p q given
-  pub ends : (a : Course R) → takes p false given a → EndsOver a all left old new result
-  pub fails : result ≡ ended.Failed → (a : Course R) → takes p true given a → Appends old new (a.text true (records_of all))
-  pub reason : (a : Course R) → takes p false given a → length all ≤ limit → CanDecide result → result ≡ ended_for (a.reason (records_of all))
+  pub ends : (w : W) → takes p false given w → EndsOver (course w) all left old new result
+  pub fails : result ≡ ended.Failed → (w : W) → takes p true given w
+      → (course w).holds (records_of all) → Appends old new ((course w).text true (records_of all))
+  pub reason : (w : W) → takes p false given w → (course w).holds (records_of all)
+      → length all ≤ limit → CanDecide result → result ≡ ended_for ((course w).reason (records_of all))

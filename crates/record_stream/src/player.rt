@@ -45,8 +45,14 @@ pub trait Player {
     // What it is answered where it asks for something itself.
     ghost Given: { Type 0 };
 
-    // What it may write from here on, whatever records follow, by what it is then answered.
-    ghost takes: { Self → Outlook Self.Reason Given };
+    // The ways that it may take from some state on.
+    ghost Way: { Type 0 };
+
+    // What it writes on each, whatever records follow of which its course holds.
+    ghost course: { Way → Course Self.Reason };
+
+    // Which of them it may take from here on, by what it is then answered.
+    ghost takes: { Self → Outlook Way Given };
 
     // What it was answered between two states.
     ghost gains: { Self → Self → List Given → Type 0 };
@@ -66,7 +72,7 @@ pub trait Player {
     fn play(&mut self, fields: &[&[u8]], lines: &mut Vec<u8>) -> Result<(), Stop<Self::Reason>>
         requires live { live self.old }
         requires count { count self.old < 2 ^ 62 }
-        ensures plays { PlaysTo gains takes self.old (record_of fields.now ∷ []) self.new lines.old.items lines.new.items result }
+        ensures plays { PlaysTo gains takes course self.old (record_of fields.now ∷ []) self.new lines.old.items lines.new.items result }
         ensures counted { OnOk result (count self.new ≡ count self.old + 1) }
         ensures own_cause { HasCauseAt Stop.Failed (own_faults self.old) (own_faults self.new) result }
         ensures live { OnOk result (live self.new) };
@@ -74,18 +80,18 @@ pub trait Player {
     /// Appends the closing lines, after the last record. After an error some first bytes of them were appended.
     fn close(&mut self, lines: &mut Vec<u8>) -> Result<(), Memory>
         requires live { live self.old }
-        ensures adds { (text : List ℕ) × Closes gains takes self.old text × Adds text lines.old.items lines.new.items result }
+        ensures adds { (text : List ℕ) × Closes gains takes course self.old text × Adds text lines.old.items lines.new.items result }
         ensures gained { gains self.old self.new [] }
         ensures own_cause { own_faults self.old ≤ own_faults self.new };
 
     /// No records and no closing lines: nothing is written.
-    ghost nothing: { (p : Self) (fails : Bool) (given : List Given) (a : Course Self.Reason) → takes p fails given a → a.text false [] ≡ [] };
+    ghost nothing: { (p : Self) (fails : Bool) (given : List Given) (w : Way) → takes p fails given w → (course w).text false [] ≡ [] };
 
     /// No records: none of them stops it.
-    ghost unstopped: { (p : Self) (fails : Bool) (given : List Given) (a : Course Self.Reason) → takes p fails given a → a.reason [] ≡ None };
+    ghost unstopped: { (p : Self) (fails : Bool) (given : List Given) (w : Way) → takes p fails given w → (course w).reason [] ≡ None };
 
     /// No records and no answers: all are asked for.
-    ghost spent: { (p : Self) (a : Course Self.Reason) → takes p false [] a → a.takes_all [] ≡ true };
+    ghost spent: { (p : Self) (w : Way) → takes p false [] w → (course w).holds [] → (course w).takes_all [] ≡ true };
 
     /// What it was answered makes one history.
     ghost history: { IsHistory gains };

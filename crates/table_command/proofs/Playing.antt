@@ -1,7 +1,7 @@
 -- One record, and a record that ends the text.
-use Rattle.std.proofs.Common.{refl, sym, ap, ◌∙◌, ◌≡◌, ◌+◌, ℕ, List, [], ◌∷◌, ◌++◌, Bool, true, false, Option, Some, None, Result, Ok, Err, OnErr, OnOk, append-nil, append_assoc}
+use Rattle.std.proofs.Common.{refl, sym, ◌∙◌, ◌≡◌, ◌+◌, ℕ, List, [], ◌∷◌, ◌++◌, true, false, Result, Ok, Err, OnErr, OnOk, append-nil, append_assoc}
 use Rattle.std.specs.Prelude.{nat_le}
-use Rattle.record_stream.specs.Alone.{closes_alone, none_asked, one_course}
+use Rattle.record_stream.specs.Alone.{closes_alone, none_asked, one_way}
 use Rattle.record_stream.specs.Course.{Adds, Closes, Goes, Stops}
 use Rattle.values.specs.declared.message.Request.{Request}
 use Rattle.client_msgs.specs.Reading.{request_of}
@@ -10,8 +10,7 @@ use Rattle.schedule_model.specs.Quantities.{Events}
 use Rattle.record_cutting.specs.Lines.{Record}
 use Rattle.schedule_model.specs.Lines.{line_text, stopped_at_limit, stopped_at_record}
 use Rattle.schedule_model.specs.Reading.{RecordFault}
-use Rattle.schedule_model.specs.Written.{AtLimit, AtRecord, Off, On, Stop, Written, all_written, follow, onto, stopped_text, text_with}
-use Rattle.schedule_text.specs.declared.fault.Stopped.{Stopped}
+use Rattle.schedule_model.specs.Written.{AtLimit, AtRecord, Off, On, Stop, Written, all_written, onto, stopped_text, text_with}
 use Rattle.schedule_text.specs.declared.fault.Stopped.TheVariants as stopped
 use Rattle.values.specs.declared.limits.TheConstants.{MAX_EVENTS}
 use Rattle.table_model.specs.TableText.{Applied, TableRecord, asks, row_line, rows_line, table_played, table_record}
@@ -35,14 +34,15 @@ cause_onto text (Off more stop s) = refl
 goes_on : (s t : Applied) (r : Record) (text : List ℕ) → table_played s r ≡ On text t → Goes (course_from s) (r ∷ []) (course_from t) text
 unfolding all_written
 goes_on s t r text is = record {
-  text = λ closed more. rw is (text_onto (closing closed) text (all_written table_played t more));
-  reason = λ more. rw is (cause_onto text (all_written table_played t more));
-  takes_all = λ more. refl;
+  holds = λ more here. tt;
+  text = λ closed more here. rw is (text_onto (closing closed) text (all_written table_played t more));
+  reason = λ more here. rw is (cause_onto text (all_written table_played t more));
+  takes_all = λ more here. refl;
 }
 
 stops_at : (s t : Applied) (r : Record) (stop : Stop) → table_played s r ≡ Off [] stop t → Stops (course_from s) (r ∷ []) (cause_of stop) (stopped_text stop)
 unfolding all_written
-stops_at s t r stop is = record { text = λ closed more. rw is refl; reason = λ more. rw is refl; takes_all = λ more. refl }
+stops_at s t r stop is = record { text = λ closed more here. rw is refl; reason = λ more here. rw is refl; takes_all = λ more here. refl }
 
 -- ---- the three kinds of records
 
@@ -68,7 +68,7 @@ stops_limit s r ask is full = stops_at s s r (AtLimit Events) (rw (is, full) ref
 -- ---- the closing line
 
 pub closes_rows : {T E : Type 0} (s : Applied) (old new : List ℕ) (r : Result T E) → OnOk r (new ≡ old ++ rows_line s) → OnErr r (new ≡ old)
-    → (text : List ℕ) × Closes none_asked (one_course course_from) s text × Adds text old new r
+    → (text : List ℕ) × Closes none_asked one_way course_from s text × Adds text old new r
 unfolding all_written
 closes_rows s old new (Ok done) line kept = (rows_line s, closes_alone course_from s, line)
 closes_rows s old new (Err e) line kept = (rows_line s, closes_alone course_from s, ([], rows_line s, refl, kept ∙ sym (append-nil old)))

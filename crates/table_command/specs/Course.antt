@@ -1,5 +1,5 @@
 -- What the player of a table writes, for whatever records follow.
-use Rattle.std.specs.Prelude.{ℕ, ◌+◌, List, Bool, true, false, Option, Some, None, Result, Ok, Err}
+use Rattle.std.specs.Prelude.{ℕ, ◌+◌, ⊤, List, Bool, true, false, Option, Some, None, Result, Ok, Err}
 use Rattle.record_stream.specs.Course.{Course}
 use Rattle.record_rules.specs.Table.{RecordTable}
 use Rattle.record_rules.specs.Rules.{apply}
@@ -38,9 +38,10 @@ abbrev pub cause_in : Written Applied → Option Stopped
 cause_in (On text s) = None
 cause_in (Off text stop s) = Some (cause_of stop)
 
--- what a player writes from here on; it asks for nothing itself
+-- what a player writes from here on, whatever records follow; it asks for nothing itself
 abbrev pub course_from : Applied → Course Stopped
 course_from s = record {
+  holds = λ rs. ⊤;
   text = λ closed rs. text_with (closing closed) (all_written table_played s rs);
   reason = λ rs. cause_in (all_written table_played s rs);
   takes_all = λ rs. true;

@@ -1,6 +1,6 @@
 //! The player of a table's records.
 ghost use Rattle.std.specs.Prelude.{◌≡◌, ◌≤◌, ◌<◌, ◌+◌, ◌++◌, ◌^◌, ◌∷◌, decimal, ⊤, IfOk, OnErr, OnOk};
-ghost use Rattle.record_stream.specs.Alone.{none_asked, none_asked_history, nothing_alone, one_course, spent_alone, unstopped_alone};
+ghost use Rattle.record_stream.specs.Alone.{none_asked, none_asked_history, one_way};
 ghost use Rattle.record_cutting.specs.Lines.{record_of};
 ghost use Rattle.values.specs.declared.limits.TheConstants.{MOST_ROWS};
 ghost use Rattle.record_rules.specs.Table.{empty_table};
@@ -8,7 +8,7 @@ ghost use Rattle.schedule_model.specs.Lines.{line_text, stopped_at_limit, stoppe
 ghost use Rattle.schedule_model.specs.Quantities.{Events};
 ghost use Rattle.schedule_text.specs.Joined.{after_commas};
 ghost use Rattle.schedule_text.specs.Read.{Reads};
-ghost use Rattle.table_model.specs.TableText.{row_line, rows_line, table_record};
+ghost use Rattle.table_model.specs.TableText.{Applied, row_line, rows_line, table_record};
 ghost use Rattle.table_command.specs.Course.{after_ask, course_from, outcome};
 ghost use Rattle.table_command.specs.Openings.{nothing_from, spent_from, unstopped_from};
 
@@ -159,7 +159,11 @@ impl Player for TablePlayer {
 
     ghost Given = { ⊤ };
 
-    ghost takes = { λ p. one_course course_from p };
+    ghost Way = { Applied };
+
+    ghost course = { course_from };
+
+    ghost takes = { λ p. one_way p };
 
     ghost gains = { λ p q given. none_asked p q given };
 
@@ -190,11 +194,11 @@ impl Player for TablePlayer {
         self.end(lines)
     }
 
-    ghost nothing = { λ p. nothing_alone course_from nothing_from p };
+    ghost nothing = { λ p fails given w way. nothing_from w };
 
-    ghost unstopped = { λ p. unstopped_alone course_from unstopped_from p };
+    ghost unstopped = { λ p fails given w way. unstopped_from w };
 
-    ghost spent = { λ p. spent_alone course_from spent_from p };
+    ghost spent = { λ p w way here. spent_from w };
 
     ghost history = { none_asked_history };
 }
