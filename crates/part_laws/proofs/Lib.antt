@@ -1,7 +1,9 @@
 mod True
 mod Rules
 mod Stepped
-mod Walk
+pub mod Walk
 mod Runs
 mod Map
 mod Sessions
+pub mod Handed
+pub mod Played

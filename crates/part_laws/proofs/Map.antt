@@ -32,7 +32,7 @@ use Rattle.part_laws.proofs.True.{IsTrueMsg, IsTrue}
 use Rattle.part_laws.proofs.Runs.{HandedSent, run_true}
 
 -- ---- points
-same_point_is : (a b : Point) → same_point a b ≡ true → a ≡ b
+pub same_point_is : (a b : Point) → same_point a b ≡ true → a ≡ b
 same_point_is a b same =
     let parts = and_parts (a.index == b.index) (same_hash a.hash b.hash) same in
     let index : a.index ≡ b.index = eqb-true a.index b.index parts.0 in
@@ -62,7 +62,7 @@ names_in (m ∷ messages) p = if is_at m.message.msg p then m.message.names else
 module _ (link : Link) (w : World) (none : NoCollision link w) where
   -- what is known of a part that was sent: it is true, its path was held, and it reads it as the run does
   pub record KnownPart (names : Named) (part : TablePart) : Type 0 where
-    true_part : IsTruePart link part names
+    pub true_part : IsTruePart link part names
     held : HeldIn w.field.history names.path
     limit_is : names.limit ≡ limit_of w
     first_is : names.first ≡ (setup_of w).first
@@ -89,7 +89,7 @@ module _ (link : Link) (w : World) (none : NoCollision link w) where
   known_msg from names (PartTaken term point next) part_is good told = tt
 
   -- two parts of tables at one point name the same
-  one_name : (n m : Named) (a b : TablePart) → KnownPart n a → KnownPart m b → a.point ≡ b.point → n ≡ m
+  pub one_name : (n m : Named) (a b : TablePart) → KnownPart n a → KnownPart m b → a.point ≡ b.point → n ≡ m
   one_name n m a b k h at =
       let ends : end_point link n.path ≡ end_point link m.path = sym (ap (λ (x : TablePart). x.point) k.true_part.is_part) ∙ (at ∙ ap (λ (x : TablePart). x.point) h.true_part.is_part) in
       let lengths : length n.path ≡ length m.path = ap (λ (p : Point). p.index) ends in

@@ -1,4 +1,5 @@
--- What a state keeps of the tables that it sends, and that each part that a call sends is a true one.
+-- What a state keeps of the tables that it sends and of the one that it takes, and that each part that a call sends is a
+-- true one.
 use Rattle.std.proofs.Common.{◌≡◌, ℕ, ◌<◌, Some, List, arith}
 use Rattle.std.specs.List.{AllByRecursion}
 use Rattle.values.specs.declared.peer.PeerMsg.{PeerMsg}
@@ -9,7 +10,7 @@ use Rattle.replica_model.specs.Folds.{fold_of}
 use Rattle.replica_model.specs.Message.{Message}
 use Rattle.replica_model.specs.Replica.{Named, Sending, Role, Learner, Follower, Candidate, Leader, Leading, Replica}
 use Rattle.replica_model.specs.Tables.{parts_of, IsTruePart}
-use Rattle.replica_model.specs.Call.{Call}
+use Rattle.replica_model.specs.Call.{Input, Peer, Call}
 
 -- the outstanding part is one of the table's
 abbrev pub IsNumbered : ℕ → Sending → Type 0
@@ -18,14 +19,41 @@ IsNumbered limit sending = sending.part < parts_of (fold_of limit sending.path).
 abbrev pub SendsNumbered : ℕ → Leading → Type 0
 SendsNumbered limit l = (u : ℕ) (sending : Sending) → value_at l.sendings u ≡ Some sending → IsNumbered limit sending
 
-abbrev pub AreNumbered : ℕ → Role → Type 0
-AreNumbered limit (Learner taking) = Unit {0}
-AreNumbered limit Follower = Unit {0}
-AreNumbered limit (Candidate votes) = Unit {0}
-AreNumbered limit (Leader l) = SendsNumbered limit l
+-- and this is known of what the table names that a learner takes
+module _ (Takes : Named → Type 0) where
+  abbrev pub GoodTables : ℕ → Role → Type 0
+  GoodTables limit (Learner taking) = Takes taking.names
+  GoodTables limit Follower = Unit {0}
+  GoodTables limit (Candidate votes) = Unit {0}
+  GoodTables limit (Leader l) = SendsNumbered limit l
 
-abbrev pub GoodSender : Replica → Type 0
-GoodSender s = AreNumbered s.limit s.role
+  abbrev pub HasGoodTables : Replica → Type 0
+  HasGoodTables s = GoodTables s.limit s.role
+
+  -- so it is of what a part names that is handed
+  abbrev pub TakesOf : Named → PeerMsg → Type 0
+  TakesOf names (AskVote term last_index last_term) = Unit {0}
+  TakesOf names (Vote term granted) = Unit {0}
+  TakesOf names (Append term prev entries promise commit) = Unit {0}
+  TakesOf names (Accepted term end promised) = Unit {0}
+  TakesOf names (Rejected term asked hint) = Unit {0}
+  TakesOf names (Part term part) = Takes names
+  TakesOf names (PartTaken term point next) = Unit {0}
+
+  abbrev pub TakesIn : Input → Type 0
+  TakesIn (Peer from m) = TakesOf m.names m.msg
+  TakesIn input = Unit {0}
+
+module _ {Takes More : Named → Type 0} (more : (names : Named) → Takes names → More names) where
+  tables_more : (limit : ℕ) (role : Role) → GoodTables Takes limit role → GoodTables More limit role
+  tables_more limit (Learner taking) g = more taking.names g
+  tables_more limit Follower g = tt
+  tables_more limit (Candidate votes) g = tt
+  tables_more limit (Leader l) g = g
+
+  -- tables stay good where what is known of names stays known
+  pub good_more : (s : Replica) → HasGoodTables Takes s → HasGoodTables More s
+  good_more s g = tables_more s.limit s.role g
 
 module _ (link : Link) where
   abbrev pub IsTrueMsg : Named → PeerMsg → Type 0
@@ -45,12 +73,12 @@ module _ (link : Link) where
   AreTrue sent = AllByRecursion (λ m. IsTrue m.1) sent
 
   -- what holds of a call so far
-  pub record TrueParts (limit : ℕ) (role : Role) (sent : List (ℕ × Message)) : Type 0 where
-    pub sends : AreNumbered limit role
+  pub record TrueParts (Takes : Named → Type 0) (limit : ℕ) (role : Role) (sent : List (ℕ × Message)) : Type 0 where
+    pub sends : GoodTables Takes limit role
     pub true : AreTrue sent
 
-  abbrev pub TrueCall : Call → Type 0
-  TrueCall c = TrueParts c.state.limit c.state.role c.sent
+  abbrev pub TrueCall : (Named → Type 0) → Call → Type 0
+  TrueCall Takes c = TrueParts Takes c.state.limit c.state.role c.sent
 
 -- every table has a part 0
 pub has_first : (limit : ℕ) (path : Path) → IsNumbered limit (record { path = path; part = 0 })
