@@ -1,0 +1,15 @@
+mod Clients
+mod Counts
+mod Cutting
+mod FieldKinds
+mod Forms
+mod Hexes
+mod Members
+mod Numbers
+mod Only
+mod Records
+mod Requests
+mod Responses
+mod Steps
+mod TableRows
+mod Whole
