@@ -1,0 +1,11 @@
+pub mod Places
+pub mod Steps
+pub mod Bounds
+pub mod Standing
+pub mod Written
+pub mod Playable
+pub mod Fronts
+pub mod Feeds
+pub mod ReadLines
+pub mod Taking
+pub mod Pieces
