@@ -1,4 +1,5 @@
 pub mod Answering
+pub mod Looping
 pub mod Reached
 pub mod Reading
 pub mod Served

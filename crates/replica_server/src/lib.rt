@@ -5,8 +5,12 @@
 #![tactic(auto)]
 
 mod answer;
+mod child;
+mod children;
+mod door;
 mod fill;
 mod frame;
+mod loop_field;
 mod serve;
 mod served;
 mod server;
@@ -14,5 +18,6 @@ mod tags;
 #[cfg(test)]
 mod tests;
 
+pub use loop_field::LoopField;
 pub use serve::{serve_session, serve_tagged};
 pub use served::{FrameCause, Served};
