@@ -1,7 +1,11 @@
-pub mod Digits
-pub mod Playing
-pub mod Runs
+pub mod Unbroken
+pub mod Replays
+pub mod Tables
+pub mod Unread
 pub mod Parses
-mod Examples
+pub mod Edging
 mod WordExamples
+mod EdgeExamples
 mod Serves
+pub mod Refusals
+mod Auditing

@@ -1,6 +1,6 @@
 -- What a parse of words says.
 use Rattle.std.proofs.Common.{refl, sym, ap, subst, ◌∙◌, ◌≡◌, ◌≢◌, ◌⊎◌, ℕ, List, [], ◌∷◌, map, true, false, Option, Some, None, Result, Ok, Err, IfOk, OnOk, inl, inr, codes}
-use Rattle.std.specs.Prelude.{option_map}
+use Rattle.std.specs.Prelude.{option_map, option_and_then}
 use Rattle.clap.specs.Words.{App, FailsBy, HasKind, HasMatchesOf, Kinds, Row, fault_of, first_of, first_value, found_of, is_simple, is_simple_and_free, kind_of, matches_of, rows_of}
 use Rattle.clap.specs.declared.error.Error.{Error}
 use Rattle.clap.specs.declared.error.kind.ErrorKind.TheVariants.{OutOfMemory}
@@ -21,13 +21,22 @@ untaken [] e rows (inl memory) ne = absurd (ne memory)
 untaken [] e rows (inr among) ne = absurd among
 untaken (kind ∷ kinds) e rows h ne = refl
 
-pub refused : {E : Type 0} (app want : App) (words : List (List ℕ)) (e : Error) (result : Result (Option Command) E) (f : Option (List Row) → Option Command) → app ≡ want → is_simple_and_free want ≡ true
-    → (is_simple_and_free app ≡ true → HasKind (fault_of app words) e) → f None ≡ None → IfOk result (λ command. command ≡ None) → OnOk result (kind_of e ≢ OutOfMemory)
-    → IfOk result (λ command. command ≡ f (matched want words))
+pub refused : {X E : Type 0} (app want : App) (words : List (List ℕ)) (e : Error) (result : Result (Option X) E) (f : Option (List Row) → Option X) → app ≡ want → is_simple_and_free want ≡ true
+    → (is_simple_and_free app ≡ true → HasKind (fault_of app words) e) → f None ≡ None → IfOk result (λ value. value ≡ None) → OnOk result (kind_of e ≢ OutOfMemory)
+    → IfOk result (λ value. value ≡ f (matched want words))
 refused app want words e (Err x) f is simple fails empty said kind = tt
 refused app want words e (Ok command) f is simple fails empty said kind =
     let has : HasKind (fault_of want words) e = subst (λ (a : App). HasKind (fault_of a words) e) is (fails (ap is_simple_and_free is ∙ simple)) in
     said ∙ sym (ap f (untaken (fault_of want words) e (matches_of want words) has kind) ∙ empty)
+
+-- the same, where the value stands for another
+pub refused_as : {X Y E : Type 0} (g : X → Y) (app want : App) (words : List (List ℕ)) (e : Error) (result : Result (Option X) E) (f : Option (List Row) → Option Y) → app ≡ want → is_simple_and_free want ≡ true
+    → (is_simple_and_free app ≡ true → HasKind (fault_of app words) e) → f None ≡ None → IfOk result (λ value. value ≡ None) → OnOk result (kind_of e ≢ OutOfMemory)
+    → IfOk result (λ value. option_map g value ≡ f (matched want words))
+refused_as g app want words e (Err x) f is simple fails empty said kind = tt
+refused_as g app want words e (Ok value) f is simple fails empty said kind =
+    let has : HasKind (fault_of want words) e = subst (λ (a : App). HasKind (fault_of a words) e) is (fails (ap is_simple_and_free is ∙ simple)) in
+    ap (option_map g) said ∙ sym (ap f (untaken (fault_of want words) e (matches_of want words) has kind) ∙ empty)
 
 -- ---- words that are taken
 
@@ -47,17 +56,22 @@ pub tagged_is : (words : List (List ℕ)) (key o : Option (List ℕ)) → matche
     → key ≡ o → option_map Tagged o ≡ tagged_of words
 tagged_is words key o is value says = rw (is, ← value, says) refl
 
+-- what the value of the option says, where the words are taken
+pub option_says : {X : Type 0} (app : App) (words : List (List ℕ)) (id : List ℕ) (f : Option (List ℕ) → Option X) (value : Option (List ℕ)) (x : Option X) → matched app words ≡ Some (matches_of app words)
+    → value ≡ first_of id (matches_of app words) → x ≡ f value → x ≡ option_and_then (λ rows. f (first_of id rows)) (matched app words)
+option_says app words id f value x is same says = rw (is, ← same, says) refl
+
 -- ---- another word than a command's name
 
-differs : (xs ys : List ℕ) → (xs ≡ ys → ⊥) → bytes_eq xs ys ≡ false
+pub differs : (xs ys : List ℕ) → (xs ≡ ys → ⊥) → bytes_eq xs ys ≡ false
 differs xs ys ne = elim (cases_Bool (bytes_eq xs ys)) [ inl y ↦ absurd (ne ((bytes_eq-Decides xs ys).0 y)) | inr n ↦ n ]
 
 -- the word is the name of no command
 abbrev pub IsNoName : List ℕ → Type 0
-IsNoName name = (name ≡ codes "replay" → ⊥) × (name ≡ codes "table" → ⊥) × (name ≡ codes "serve" → ⊥) × (name ≡ codes "tagged" → ⊥)
+IsNoName name = (name ≡ codes "replay" → ⊥) × (name ≡ codes "table" → ⊥) × (name ≡ codes "serve" → ⊥) × (name ≡ codes "tagged" → ⊥) × (name ≡ codes "audit" → ⊥)
 
 no_name : (name : List ℕ) (rest : List (List ℕ)) → IsNoName name → None ≡ command_of (name ∷ rest)
-no_name name rest (a, b, s, t) = rw (differs name (codes "replay") a, differs name (codes "table") b, differs name (codes "serve") s, differs name (codes "tagged") t) refl
+no_name name rest (a, b, s, t, d) = rw (differs name (codes "replay") a, differs name (codes "table") b, differs name (codes "serve") s, differs name (codes "tagged") t, differs name (codes "audit") d) refl
 
 pub no_command : {X : Type 0} (bytes : X → List ℕ) (words : List X) (x : X) → slice_get words 0 ≡ Some x → IsNoName (bytes x) → None ≡ command_of (map bytes words)
 no_command bytes [] x is none = cc

@@ -1,8 +1,5 @@
 pub mod Words
-pub mod Numbers
-pub mod Form
-pub mod Trace
-pub mod Worlds
+pub mod Edges
 pub mod Run
-pub mod Openings
 pub mod Sessions
+pub mod Audits

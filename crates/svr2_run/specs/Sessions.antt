@@ -29,3 +29,4 @@ ServesOver tagging names all left old new status.Frame = (at : ℕ) × (why : Fr
 ServesOver tagging names all left old new status.Usage = ⊥
 ServesOver tagging names all left old new status.Schedule = ⊥
 ServesOver tagging names all left old new status.FieldFault = ⊥
+ServesOver tagging names all left old new status.Refused = ⊥

@@ -1,5 +1,5 @@
 -- What the words of the command line mean.
-use Rattle.std.specs.Prelude.{ℕ, ◌≤◌, ⊤, if◌then◌else◌, List, [], ◌∷◌, Option, Some, None, option_map, option_and_then, Result, Ok, Err, codes, bytes_eq, fold}
+use Rattle.std.specs.Prelude.{ℕ, ◌≤◌, ⊤, if◌then◌else◌, List, [], ◌∷◌, Option, Some, None, option_map, option_and_then, Result, Ok, Err, codes, bytes_eq}
 use Rattle.clap.specs.Words.{App, Row, fault_of, first_of, matches_of, new_app, new_rule, with_rule}
 use Rattle.hex.specs.Hex.{decode_sized}
 use Rattle.hex.specs.declared.error.FromHexError.{FromHexError}
@@ -8,9 +8,11 @@ use Rattle.trace_model.specs.Session.{Tagging, untagged, tagged_by}
 use Rattle.link_tags.specs.Hmac.{hmac_of}
 use Rattle.schedule_model.specs.Reading.{number_of, RecordFault}
 use Rattle.svr2_run.specs.declared.words.Command.{Command}
-use Rattle.svr2_run.specs.declared.words.Command.TheVariants.{Play, Serve, Tagged}
+use Rattle.svr2_run.specs.declared.words.Command.TheVariants.{Audit, Play, Serve, Tagged}
 use Rattle.svr2_run.specs.declared.words.Play as what
 use Rattle.svr2_run.specs.declared.words.Play.TheVariants.{Replay, Table}
+use Rattle.svr2_run.specs.declared.words.Streams.{Streams}
+use Rattle.svr2_run.specs.declared.words.Streams.TheVariants.{Standard, Connected}
 
 -- the simple command of a name with one option of this name, which takes a value
 abbrev pub with_option : App → List ℕ → App
@@ -52,12 +54,35 @@ limit_of (Some text) = number_in (number_of text 0 1 MOST_ROWS)
 abbrev pub table_of : List (List ℕ) → Option Command
 table_of words = option_map (λ limit. Play (Table limit)) (option_and_then (λ rows. limit_of (first_of (codes "rows") rows)) (matched table_app words))
 
--- `serve`, without options
+-- `serve`, with the option `connect`
 abbrev pub serve_app : App
-serve_app = new_app (codes "serve")
+serve_app = with_option (new_app (codes "serve")) (codes "connect")
 
+-- the greatest number of a port
+abbrev pub most_port : ℕ
+most_port = 65535
+
+-- the streams of a session: the standard ones, or connections to the port that the option's value says, a decimal number from
+-- 1 to 65,535
+abbrev pub streams_of : Option (List ℕ) → Option Streams
+streams_of None = Some Standard
+streams_of (Some text) = option_map Connected (number_in (number_of text 0 1 most_port))
+
+-- the streams of `serve`, where these are its words
+abbrev pub served_by : List (List ℕ) → Option Streams
+served_by words = option_and_then (λ rows. streams_of (first_of (codes "connect") rows)) (matched serve_app words)
+
+-- the command is the same over any streams
 abbrev pub serve_of : List (List ℕ) → Option Command
-serve_of words = option_map (λ rows. Serve) (matched serve_app words)
+serve_of words = option_map (λ streams. Serve) (served_by words)
+
+-- `group`, with the option `program`
+abbrev pub group_app : App
+group_app = with_option (new_app (codes "group")) (codes "program")
+
+-- the path of `group`, where these are its words
+abbrev pub grouped_by : List (List ℕ) → Option (List ℕ)
+grouped_by words = option_and_then (λ rows. first_of (codes "program") rows) (matched group_app words)
 
 -- `tagged`, with the option `key`
 abbrev pub tagged_app : App
@@ -75,6 +100,13 @@ key_of (Some text) = bytes_in (decode_sized text 32)
 abbrev pub tagged_of : List (List ℕ) → Option Command
 tagged_of words = option_map Tagged (option_and_then (λ rows. key_of (first_of (codes "key") rows)) (matched tagged_app words))
 
+-- `audit`, without options
+abbrev pub audit_app : App
+audit_app = new_app (codes "audit")
+
+abbrev pub audit_of : List (List ℕ) → Option Command
+audit_of words = option_map (λ rows. Audit) (matched audit_app words)
+
 -- the command, by the first word
 abbrev pub command_of : List (List ℕ) → Option Command
 command_of [] = None
@@ -83,6 +115,7 @@ command_of (name ∷ words) =
     else if bytes_eq name (codes "table") then table_of (name ∷ words)
     else if bytes_eq name (codes "serve") then serve_of (name ∷ words)
     else if bytes_eq name (codes "tagged") then tagged_of (name ∷ words)
+    else if bytes_eq name (codes "audit") then audit_of (name ∷ words)
     else None
 
 -- what the words play from the source, where they do
@@ -90,6 +123,7 @@ abbrev pub play_in : Option Command → Option what.Play
 play_in (Some (Play play)) = Some play
 play_in (Some Serve) = None
 play_in (Some (Tagged key)) = None
+play_in (Some Audit) = None
 play_in None = None
 
 abbrev pub play_of : List (List ℕ) → Option what.Play
@@ -100,6 +134,7 @@ abbrev pub tagging_in : Option Command → Option Tagging
 tagging_in (Some (Play play)) = None
 tagging_in (Some Serve) = Some untagged
 tagging_in (Some (Tagged key)) = Some (tagged_by (hmac_of key))
+tagging_in (Some Audit) = None
 tagging_in None = None
 
 abbrev pub tagging_of : List (List ℕ) → Option Tagging
@@ -114,3 +149,4 @@ abbrev pub HasLimits : Command → Type 0
 HasLimits (Play play) = HasLimit play
 HasLimits Serve = ⊤
 HasLimits (Tagged key) = ⊤
+HasLimits Audit = ⊤

@@ -1,23 +1,40 @@
 //! The top call.
-ghost use Rattle.std.specs.Prelude.{◌≡◌, ◌≢◌, ◌≤◌, ◌<◌, ◌⊎◌, ℕ, [], List, length, map, take, string_bytes, Some, None, IfSome, IsSome};
-ghost use Rattle.std.specs.Io.KnownBytes.{Appends, Consumes};
+ghost use Rattle.std.specs.Prelude.{◌≡◌, ◌≢◌, ◌≤◌, ◌⊎◌, ℕ, [], List, length, map, string_bytes, None, Some, IfSome, IsSome, IsTrue};
 ghost use Rattle.byte_streams.specs.Causes.{Rose};
+ghost use Rattle.record_cutting.specs.Lines.{records_of};
 ghost use Rattle.record_stream.specs.Ends.{limit};
-ghost use Rattle.values.specs.declared.limits.TheConstants.{MOST_ROWS};
-ghost use Rattle.svr2_run.specs.Run.{CutOff, RunsOver, StoppedBy, WroteLines, status_by, stop_of, text_of};
+ghost use Rattle.values.specs.declared.limits.TheConstants.{MAX_SOURCE, MOST_ROWS};
+ghost use Rattle.values.specs.declared.ids.ClientId.{ClientId};
+ghost use Rattle.values.specs.declared.entry.Point.{Point};
+ghost use Rattle.replica_model.specs.Linked.{sha_link};
+ghost use Rattle.replica_model.specs.Replica.{Named};
+ghost use Rattle.group_model.specs.Group.{is_within};
+ghost use Rattle.group_model.specs.Halts.{HaltLaws};
+ghost use Rattle.group_model.specs.Laws.{OneLogLaws};
+ghost use Rattle.group_model.specs.Log.{NoCollision, WithinBound, log_of};
+ghost use Rattle.group_model.specs.Reports.{IsOnlySaid, ReportsHold};
+ghost use Rattle.trace_audit.specs.declared.source.TheConstants.{MAX_TRACE};
+ghost use Rattle.trace_model.specs.Audit.{Accepts, Audits};
+ghost use Rattle.trace_model.specs.Schedules.{trace_of, world_of};
+ghost use Rattle.trace_model.specs.Session.{untagged, tagged_by, IsMapFor};
+ghost use Rattle.trace_model.specs.Summary.{halts};
+ghost use Rattle.headline_laws.specs.HaltLines.{IsWithoutHalt};
+ghost use Rattle.link_tags.specs.Hmac.{hmac_of};
+ghost use Rattle.enclave_host.specs.Words.{wording};
+ghost use Rattle.svr2_run.specs.Audits.{AuditsOver, Decides};
+ghost use Rattle.svr2_run.specs.Run.{Holds, IsNoFrame, RunsOver, status_in};
 ghost use Rattle.svr2_run.specs.Run as spec;
 ghost use Rattle.svr2_run.specs.Words.{command_of, play_of, tagging_of};
 ghost use Rattle.svr2_run.specs.Sessions as sessions;
 ghost use Rattle.svr2_run.specs.Sessions.{ServesOver};
-ghost use Rattle.values.specs.declared.entry.Point.{Point};
-ghost use Rattle.replica_model.specs.Linked.{sha_link};
-ghost use Rattle.replica_model.specs.Replica.{Named};
-ghost use Rattle.trace_model.specs.Session.{untagged, tagged_by, IsMapFor};
-ghost use Rattle.link_tags.specs.Hmac.{hmac_of};
-ghost use Rattle.enclave_host.specs.Words.{wording};
 
-use crate::state::OneVoter;
+use crate::audit::audit;
 use crate::words::{Command, Play, read_words};
+use audit_laws::traces_are_accepted;
+use group_world::{LocalField, Played, play};
+use headline_laws::{headline, no_halt_line, printed_headline, schedule_reports};
+use part_laws::calls_are_named;
+use range_laws::own_link_gives_hashes;
 use record_stream::{Ended, play_source};
 use replica_server::{Served, serve_session, serve_tagged};
 use schedule_text::Stopped;
@@ -40,12 +57,15 @@ pub enum Status {
     ReadFault,
     /// The sink failed.
     WriteFault,
-    /// What a command asks of replicas failed. No command asks any yet.
+    /// What a command asks of replicas failed. Replicas in memory do not.
     FieldFault,
-    /// The source holds more than 67,108,864 bytes, or another limit would be passed.
+    /// The source holds more bytes than are read, 67,108,864 of a schedule and 1,099,511,627,776 of a trace, or another limit
+    /// would be passed.
     Limit,
     /// A frame of a session is bad.
     Frame,
+    /// A trace is refused.
+    Refused,
 }
 
 impl Status {
@@ -60,6 +80,7 @@ impl Status {
         ensures field_fault { self ≡ Status.FieldFault → result ≡ 6 }
         ensures limit { self ≡ Status.Limit → result ≡ 7 }
         ensures frame { self ≡ Status.Frame → result ≡ 8 }
+        ensures refused { self ≡ Status.Refused → result ≡ 9 }
     {
         match self {
             Status::Done => 0,
@@ -71,6 +92,7 @@ impl Status {
             Status::FieldFault => 6,
             Status::Limit => 7,
             Status::Frame => 8,
+            Status::Refused => 9,
         }
     }
 }
@@ -90,22 +112,38 @@ fn status_of(ended: Ended<Stopped>) -> Status
     }
 }
 
-/// Plays a schedule from the source, and writes its trace to the sink.
+fn status_played(played: Played) -> Status
+    ensures { result ≡ spec.status_played played }
+{
+    match played {
+        Played::Done => Status::Done,
+        Played::Memory => Status::Memory,
+        Played::Schedule { .. } => Status::Schedule,
+        Played::ReadFault => Status::ReadFault,
+        Played::WriteFault => Status::WriteFault,
+        Played::FieldFault => Status::FieldFault,
+        Played::Limit(_) => Status::Limit,
+        Played::Frame(_) => Status::Frame,
+    }
+}
+
+/// Plays a schedule from the source by a group in memory, and writes its trace to the sink.
 fn replay<S: Source, K: Sink>(alloc: Global, source: &mut S, sink: &mut K) -> Status
     ensures runs { IfSome (S.left source.old) (λ all. RunsOver Play.Replay all (S.left source.new) (K.taken sink.old) (K.taken sink.new) result) }
-    ensures decided { IfSome (S.left source.old) (λ all. length all ≤ limit
+    ensures decided { IfSome (S.left source.old) (λ all. length all ≤ limit → Holds Play.Replay (records_of all)
         → ¬ Rose (S.faults source.old) (S.faults source.new) → ¬ Rose (K.faults sink.old) (K.faults sink.new)
-        → result ≢ Status.Memory → result ≡ status_by (stop_of Play.Replay all)) }
+        → result ≢ Status.Memory → result ≡ status_in Play.Replay all) }
     ensures never_usage { result ≢ Status.Usage }
     ensures never_field { result ≢ Status.FieldFault }
-    ensures never_frame { result ≢ Status.Frame }
+    ensures never_refused { result ≢ Status.Refused }
     ensures read_cause { result ≡ Status.ReadFault → Rose (S.faults source.old) (S.faults source.new) }
     ensures write_cause { result ≡ Status.WriteFault → Rose (K.faults sink.old) (K.faults sink.new) }
     ensures read_later { S.faults source.old ≤ S.faults source.new }
     ensures write_later { K.faults sink.old ≤ K.faults sink.new }
 {
-    let mut voter = OneVoter::new(alloc);
-    status_of(play_source(alloc, &mut voter, source, sink))
+    calls_are_named();
+    let (played, _field) = play(alloc, source, sink, LocalField::new(alloc));
+    status_played(played)
 }
 
 /// Applies the requests of the source's records to one table, and writes what comes of them to the sink.
@@ -113,11 +151,12 @@ fn table<S: Source, K: Sink>(alloc: Global, rows: u32, source: &mut S, sink: &mu
     requires least { 1 ≤ rows }
     requires most { rows ≤ MOST_ROWS }
     ensures runs { IfSome (S.left source.old) (λ all. RunsOver (Play.Table rows) all (S.left source.new) (K.taken sink.old) (K.taken sink.new) result) }
-    ensures decided { IfSome (S.left source.old) (λ all. length all ≤ limit
+    ensures decided { IfSome (S.left source.old) (λ all. length all ≤ limit → Holds (Play.Table rows) (records_of all)
         → ¬ Rose (S.faults source.old) (S.faults source.new) → ¬ Rose (K.faults sink.old) (K.faults sink.new)
-        → result ≢ Status.Memory → result ≡ status_by (stop_of (Play.Table rows) all)) }
+        → result ≢ Status.Memory → result ≡ status_in (Play.Table rows) all) }
     ensures never_usage { result ≢ Status.Usage }
     ensures never_field { result ≢ Status.FieldFault }
+    ensures never_refused { result ≢ Status.Refused }
     ensures never_frame { result ≢ Status.Frame }
     ensures read_cause { result ≡ Status.ReadFault → Rose (S.faults source.old) (S.faults source.new) }
     ensures write_cause { result ≡ Status.WriteFault → Rose (K.faults sink.old) (K.faults sink.new) }
@@ -146,6 +185,7 @@ fn serve<S: Source, K: Sink>(alloc: Global, source: &mut S, sink: &mut K) -> Sta
     ensures serves { IfSome (S.left source.old) (λ all. (names : Point → Named) → IsMapFor wording untagged sha_link names all
         → ServesOver untagged names all (S.left source.new) (K.taken sink.old) (K.taken sink.new) result) }
     ensures served { (result ≢ Status.Usage) × (result ≢ Status.Schedule) × (result ≢ Status.FieldFault) }
+    ensures never_refused { result ≢ Status.Refused }
     ensures read_cause { result ≡ Status.ReadFault → Rose (S.faults source.old) (S.faults source.new) }
     ensures write_cause { result ≡ Status.WriteFault → Rose (K.faults sink.old) (K.faults sink.new) }
     ensures read_later { S.faults source.old ≤ S.faults source.new }
@@ -159,6 +199,7 @@ fn tagged<S: Source, K: Sink>(alloc: Global, key: [u8; 32], source: &mut S, sink
     ensures serves { IfSome (S.left source.old) (λ all. (names : Point → Named) → IsMapFor wording (tagged_by (hmac_of key)) sha_link names all
         → ServesOver (tagged_by (hmac_of key)) names all (S.left source.new) (K.taken sink.old) (K.taken sink.new) result) }
     ensures served { (result ≢ Status.Usage) × (result ≢ Status.Schedule) × (result ≢ Status.FieldFault) }
+    ensures never_refused { result ≢ Status.Refused }
     ensures read_cause { result ≡ Status.ReadFault → Rose (S.faults source.old) (S.faults source.new) }
     ensures write_cause { result ≡ Status.WriteFault → Rose (K.faults sink.old) (K.faults sink.new) }
     ensures read_later { S.faults source.old ≤ S.faults source.new }
@@ -167,9 +208,10 @@ fn tagged<S: Source, K: Sink>(alloc: Global, key: [u8; 32], source: &mut S, sink
     status_served(serve_tagged(alloc, key, source, sink))
 }
 
-/// Does what the words say: `replay` plays a schedule from the source and writes its trace to the sink; `table`
-/// applies the requests of the source's records to one record table and writes what comes of each; `serve` serves one enclave
-/// over the frames of the source, and `tagged` does so over frames that are tagged.
+/// Does what the words say: `replay` plays a schedule from the source, by a group in memory, and writes its trace to the
+/// sink; `table` applies the requests of the source's records to one record table and writes what comes of each; `serve`
+/// serves one enclave over the frames of the source, and `tagged` does so over frames that are tagged; `audit` audits the
+/// trace that the source holds and writes the verdict.
 ///
 /// The words are the command line without the program's own name. Want of memory is the one free answer.
 pub fn run<S: Source, K: Sink>(
@@ -185,35 +227,34 @@ pub fn run<S: Source, K: Sink>(
     ensures source_left { command_of (map string_bytes words.now) ≡ None → source.new ≡ source.old }
     ensures sink_left { command_of (map string_bytes words.now) ≡ None → sink.new ≡ sink.old }
 
-    // Where the source tells that it holds these bytes, and the sink what it gained: the whole text of the command,
-    ensures done { result ≡ Status.Done → IfSome (play_of (map string_bytes words.now)) (λ play. IfSome (S.left source.old) (λ all.
-        (S.left source.new ≡ Some []) × (length all ≤ limit) × (stop_of play all ≡ None)
-        × Appends (K.taken sink.old) (K.taken sink.new) (text_of play all))) }
-
-    // which ends with a line of its own where a record means nothing,
-    ensures schedule { result ≡ Status.Schedule → IfSome (play_of (map string_bytes words.now)) (λ play. IfSome (S.left source.old) (λ all.
-        StoppedBy play Stopped.AtRecord all (K.taken sink.old) (K.taken sink.new))) }
-
-    // or the lines of the records that stand whole in the bytes read, or in as many as are played; a limit of another
-    // kind ends the text with a line of its own,
-    ensures read_fault { result ≡ Status.ReadFault → IfSome (play_of (map string_bytes words.now)) (λ play. IfSome (S.left source.old) (λ all.
-        (read : List ℕ) × Consumes (Some all) (S.left source.new) read
-        × WroteLines play read (K.taken sink.old) (K.taken sink.new))) }
-    ensures limit { result ≡ Status.Limit → IfSome (play_of (map string_bytes words.now)) (λ play. IfSome (S.left source.old) (λ all.
-        ((limit < length all) × WroteLines play (take limit all) (K.taken sink.old) (K.taken sink.new))
-        ⊎ StoppedBy play Stopped.AtLimit all (K.taken sink.old) (K.taken sink.new))) }
-
-    // or first bytes of the lines of the records that stand whole in the bytes read, and of the closing lines where
-    // all was read, after a write fault and after want of memory.
-    ensures write_fault { result ≡ Status.WriteFault → IfSome (play_of (map string_bytes words.now)) (λ play. IfSome (S.left source.old) (λ all.
-        CutOff play all (S.left source.new) (K.taken sink.old) (K.taken sink.new))) }
-    ensures memory { result ≡ Status.Memory → IfSome (play_of (map string_bytes words.now)) (λ play. IfSome (S.left source.old) (λ all.
-        CutOff play all (S.left source.new) (K.taken sink.old) (K.taken sink.new))) }
+    // Where the source tells that it holds these bytes, and the sink what it gained: at Done the whole text of the command,
+    // and at Schedule a text that ends with the line of the record that means nothing. At ReadFault exactly the lines of the
+    // records that stand whole in the bytes read; at Limit the same of as many bytes as are played, or a text that ends with
+    // the line of another limit. At WriteFault and Memory first bytes of these lines, and of the closing ones where all was
+    // read. What a group writes is said where the chain's link does not collide in the run of these records; Frame comes only
+    // where it does.
+    ensures plays { IfSome (play_of (map string_bytes words.now)) (λ play. IfSome (S.left source.old) (λ all.
+        RunsOver play all (S.left source.new) (K.taken sink.old) (K.taken sink.new) result)) }
 
     // With the words of a command, no fault and not too many bytes, the records decide.
-    ensures decided { IfSome (play_of (map string_bytes words.now)) (λ play. IfSome (S.left source.old) (λ all. length all ≤ limit
+    ensures decided { IfSome (play_of (map string_bytes words.now)) (λ play. IfSome (S.left source.old) (λ all.
+        length all ≤ limit → Holds play (records_of all)
         → ¬ Rose (S.faults source.old) (S.faults source.new) → ¬ Rose (K.faults sink.old) (K.faults sink.new)
-        → result ≢ Status.Memory → result ≡ status_by (stop_of play all))) }
+        → result ≢ Status.Memory → result ≡ status_in play all)) }
+
+    // Whatever the bytes of a schedule: where its run keeps the rollback bound, or its closing lines say so, and without a
+    // collision there is one log, and each outcome is the one table's answer at its place in it.
+    ensures one_log { (bytes : List ℕ) → WithinBound (world_of sha_link bytes) → NoCollision sha_link (world_of sha_link bytes)
+        → OneLogLaws (world_of sha_link bytes) }
+    ensures printed { (bytes : List ℕ) → IsTrue (is_within (world_of sha_link bytes)) → NoCollision sha_link (world_of sha_link bytes)
+        → OneLogLaws (world_of sha_link bytes) × ((world_of sha_link bytes).committed ≡ length (log_of (world_of sha_link bytes))) }
+    // Within the bound, what a client reports that no ask names follows that log.
+    ensures reports { (bytes : List ℕ) → WithinBound (world_of sha_link bytes) → NoCollision sha_link (world_of sha_link bytes)
+        → (client : ClientId) → IsOnlySaid (world_of sha_link bytes) client
+        → ReportsHold (world_of sha_link bytes) client (world_of sha_link bytes).hearings }
+    // Where no roll was accepted, nobody halts, and no line of the trace tells of a halt.
+    ensures no_halt { (bytes : List ℕ) → (world_of sha_link bytes).rolled ≡ [] → NoCollision sha_link (world_of sha_link bytes)
+        → HaltLaws (world_of sha_link bytes) × (halts (world_of sha_link bytes) ≡ 0) × IsWithoutHalt (trace_of sha_link bytes) }
 
     // A session ends as its definition has it, by every map from points to paths that is one for the source's bytes: with the
     // answers to all frames, to those before a bad one or before a limit, to those that stand whole in the bytes read, or with
@@ -222,9 +263,28 @@ pub fn run<S: Source, K: Sink>(
         (names : Point → Named) → IsMapFor wording tagging sha_link names all
         → ServesOver tagging names all (S.left source.new) (K.taken sink.old) (K.taken sink.new) result)) }
     ensures schedule_plays { IsSome (tagging_of (map string_bytes words.now)) → result ≢ Status.Schedule }
-    ensures frame_serves { IsSome (play_of (map string_bytes words.now)) → result ≢ Status.Frame }
+    ensures frame_serves { IfSome (play_of (map string_bytes words.now)) (λ play. IsNoFrame play result) }
 
-    // No command asks replicas yet.
+    // An audit ends as its definition has it: at Done the trace is accepted and at Refused it is refused, and exactly the line
+    // that says so was written. Over a trace that is not too long, and without a fault, the trace decides which. At a refusal the
+    // rest was not read. Nothing but an audit answers Refused.
+    ensures audits { command_of (map string_bytes words.now) ≡ Some Command.Audit → IfSome (S.left source.old) (λ all.
+        AuditsOver all (S.left source.new) (K.taken sink.old) (K.taken sink.new) result) }
+    ensures trace_decides { command_of (map string_bytes words.now) ≡ Some Command.Audit → IfSome (S.left source.old) (λ all.
+        length all ≤ MAX_TRACE
+        → ¬ Rose (S.faults source.old) (S.faults source.new) → ¬ Rose (K.faults sink.old) (K.faults sink.new)
+        → result ≢ Status.Memory → Decides all result) }
+    ensures refused_audits { result ≡ Status.Refused → command_of (map string_bytes words.now) ≡ Some Command.Audit }
+    ensures audit_alone { command_of (map string_bytes words.now) ≡ Some Command.Audit
+        → (result ≢ Status.Schedule) × (result ≢ Status.Frame) }
+
+    // Whatever the bytes of a schedule that may be played: the trace of its run is accepted, where the run keeps the rollback
+    // bound and no two different entries of it have one hash, whether it was played to its end or stops before.
+    ensures accepts { (bytes : List ℕ) → length bytes ≤ MAX_SOURCE → WithinBound (world_of sha_link bytes)
+        → NoCollision sha_link (world_of sha_link bytes)
+        → (lines : ℕ) × Audits (trace_of sha_link bytes) (Accepts lines) }
+
+    // The replicas of a replay run in memory, which does not fail.
     ensures no_field { result ≢ Status.FieldFault }
 
     // A fault has its cause, and no count of faults falls.
@@ -233,11 +293,18 @@ pub fn run<S: Source, K: Sink>(
     ensures read_later { S.faults source.old ≤ S.faults source.new }
     ensures write_later { K.faults sink.old ≤ K.faults sink.new }
 {
+    headline();
+    printed_headline();
+    schedule_reports();
+    no_halt_line();
+    own_link_gives_hashes();
+    traces_are_accepted();
     match read_words(alloc, words) {
         Ok(Some(Command::Play(Play::Replay))) => replay(alloc, source, sink),
         Ok(Some(Command::Play(Play::Table { limit }))) => table(alloc, limit, source, sink),
         Ok(Some(Command::Serve)) => serve(alloc, source, sink),
         Ok(Some(Command::Tagged { key })) => tagged(alloc, key, source, sink),
+        Ok(Some(Command::Audit)) => audit(alloc, source, sink),
         Ok(None) => Status::Usage,
         Err(Memory) => Status::Memory,
     }

@@ -1,21 +1,20 @@
 //! The program's one call: the words of a command, a source and a sink.
 #![tactic(auto)]
 
-mod backup;
+mod audit;
+#[cfg(test)]
+mod audit_tests;
 mod command;
-mod event;
-mod form;
-mod lines;
-mod number;
-mod player;
+mod edge;
+#[cfg(test)]
+mod replay_tests;
 #[cfg(test)]
 mod session_tests;
-mod state;
 #[cfg(test)]
 mod table_tests;
 #[cfg(test)]
 mod tests;
-mod voter;
 mod words;
 
 pub use command::{Status, run};
+pub use edge::{Edge, edge_of};

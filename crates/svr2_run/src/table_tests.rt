@@ -3,17 +3,22 @@ use std::alloc::Global;
 use std::test::Fail;
 use svr_base::{MemSink, MemSource, Memory};
 
-/// What `table` answers and writes.
+/// What a command answers and writes.
 #[derive(Clone, Copy)]
-struct Row {
+pub(crate) struct Row {
     words: &'static str,
     text: &'static str,
     /// The exit status.
-    code: u8,
-    written: &'static str,
+    pub code: u8,
+    pub written: &'static str,
 }
 
-fn table_row(words: &'static str, text: &'static str, code: u8, written: &'static str) -> Row {
+pub(crate) fn command_row(
+    words: &'static str,
+    text: &'static str,
+    code: u8,
+    written: &'static str,
+) -> Row {
     Row {
         words,
         text,
@@ -22,7 +27,7 @@ fn table_row(words: &'static str, text: &'static str, code: u8, written: &'stati
     }
 }
 
-fn outcome(alloc: Global, row: &Row) -> Result<(Status, Vec<u8>), Memory> {
+pub(crate) fn outcome(alloc: Global, row: &Row) -> Result<(Status, Vec<u8>), Memory> {
     let mut words = Vec::new(alloc);
     for word in row.words.split(' ') {
         words.push(String::from_str(alloc, word)?)?;
@@ -37,27 +42,27 @@ fn outcome(alloc: Global, row: &Row) -> Result<(Status, Vec<u8>), Memory> {
 #[test]
 fn requests_are_answered_in_order(rt: HostRuntime) -> Result<(), Fail> {
     let rows = [
-        table_row(
+        command_row(
             "table --rows=1",
             "000000000000000000000000000000Aa,1,12360a10aaaaaaaaaaaaaaaaaaaaaaaaaaaaaaaa122011111111111111111111111111111111111111111111111111111111111111111803\n000000000000000000000000000000bb,1,12360a10aaaaaaaaaaaaaaaaaaaaaaaaaaaaaaaa122011111111111111111111111111111111111111111111111111111111111111111803\n000000000000000000000000000000aA,1,2200\n000000000000000000000000000000aa,2,\n000000000000000000000000000000aa,2,12020A05\n000000000000000000000000000000aa,2,2A110a0faaaaaaaaaaaaaaaaaaaaaaaaaaaaaa\n",
             0,
             "1,done,0a020801\n2,full,1\n3,stale,1\n4,invalid,nothing,0\n5,malformed,2\n6,invalid,data,15\nrows,1\n",
         ),
-        table_row(
+        command_row(
             "table",
             "00000000000000000000000000000001,1\n",
             3,
             "stopped,schedule,1,fields,0\n",
         ),
-        table_row(
+        command_row(
             "table --rows 20000",
             "00000000000000000000000000000001,1,2200\n00000000000000000000000000000001,1111111111111111111111111,2200",
             3,
             "1,done,1a00\nstopped,schedule,2,range,2\n",
         ),
-        table_row("table --rows 05", "", 2, ""),
-        table_row("table --rows 20001", "", 2, ""),
-        table_row("table 5", "", 2, ""),
+        command_row("table --rows 05", "", 2, ""),
+        command_row("table --rows 20001", "", 2, ""),
+        command_row("table 5", "", 2, ""),
     ];
     for row in &rows {
         let (status, written) = outcome(rt.alloc(), row)?;

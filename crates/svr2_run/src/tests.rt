@@ -71,17 +71,6 @@ fn one_backup_is_answered_in_pieces_of_any_size(rt: HostRuntime) -> Result<(), F
 }
 
 #[test]
-fn two_voters_are_outside_the_form(rt: HostRuntime) -> Result<(), Fail> {
-    let (status, written) = outcome(rt.alloc(), &replay("begin,0,100,1,2", 65_536))?;
-    assert_eq!(rt; status, Status::Schedule);
-    assert_eq!(rt;
-        written.as_slice(),
-        b"stopped,schedule,1,unbuilt,0\n".as_slice()
-    );
-    Ok(())
-}
-
-#[test]
 fn another_word_is_no_command(rt: HostRuntime) -> Result<(), Fail> {
     let mut trial = replay(FIRST, 65_536);
     trial.word = "play";

@@ -31,6 +31,17 @@ pub enum Command {
     Serve,
     /// Serves one enclave over frames that are tagged under this key.
     Tagged { key: [u8; 32] },
+    /// Audits the trace of the source.
+    Audit,
+}
+
+/// Where `serve` reads its frames, and writes what it answers.
+#[derive(Clone, Copy, Debug, PartialEq, Eq)]
+pub enum Streams {
+    /// On standard input and output.
+    Standard,
+    /// On two connections to this port.
+    Connected(u16),
 }
 
 /// The limit of rows that an option's value says, or the usual one.
@@ -49,8 +60,8 @@ fn limit_of(rows: Option<&str>) -> Option<u32>
 }
 
 /// What a parse that failed says of its words: they are no command, where it was not for want of memory.
-fn refusal(kind: ErrorKind) -> Result<Option<Command>, Memory>
-    ensures none { IfOk result (λ command. command ≡ None) }
+fn refusal<T>(kind: ErrorKind) -> Result<Option<T>, Memory>
+    ensures none { IfOk result (λ value. value ≡ None) }
     ensures refused { OnOk result (kind ≢ ErrorKind.OutOfMemory) }
 {
     if kind == ErrorKind::OutOfMemory {
@@ -88,13 +99,55 @@ fn read_table(alloc: Global, words: &[String]) -> Result<Option<Command>, Memory
     }
 }
 
-/// The words of `serve`: it has no option.
-fn read_serve(alloc: Global, words: &[String]) -> Result<Option<Command>, Memory>
-    ensures { IfOk result (λ command. command ≡ spec.serve_of (map string_bytes words.now)) }
+/// The streams that an option's value says: connections to a port, or the standard ones.
+fn streams_of(port: Option<&str>) -> Option<Streams>
+    ensures { result ≡ spec.streams_of (option_map (λ text. text.now) port.entry) }
 {
-    let serve = clap::Command::new(alloc, "serve");
+    let Some(text) = port else {
+        return Some(Streams::Standard);
+    };
+    match number_of(text.as_bytes(), 0, 1, u64::from(u16::MAX)) {
+        Ok(port) => Some(Streams::Connected(port as u16)),
+        Err(_) => None,
+    }
+}
+
+/// The words of `serve`: it has the option `connect`.
+pub fn read_serve(alloc: Global, words: &[String]) -> Result<Option<Streams>, Memory>
+    ensures { IfOk result (λ streams. streams ≡ spec.served_by (map string_bytes words.now)) }
+{
+    let connect = Arg::new(alloc, "connect").long("connect");
+    let serve = clap::Command::new(alloc, "serve").arg(connect)?;
     match serve.try_get_matches_from(words) {
-        Ok(_matches) => Ok(Some(Command::Serve)),
+        Ok(matches) => Ok(streams_of(matches.get_str("connect"))),
+        Err(error) => refusal(error.kind()),
+    }
+}
+
+/// The words of `group`: it needs the option `program`, a path.
+pub fn read_group(alloc: Global, words: &[String]) -> Result<Option<String>, Memory>
+    ensures { IfOk result (λ path. option_map string_bytes path ≡ spec.grouped_by (map string_bytes words.now)) }
+{
+    let program = Arg::new(alloc, "program").long("program");
+    let group = clap::Command::new(alloc, "group").arg(program)?;
+    match group.try_get_matches_from(words) {
+        Ok(matches) => {
+            let Some(path) = matches.get_str("program") else {
+                return Ok(None);
+            };
+            Ok(Some(String::from_str(alloc, path)?))
+        }
+        Err(error) => refusal(error.kind()),
+    }
+}
+
+/// The words of `audit`: it has no option.
+fn read_audit(alloc: Global, words: &[String]) -> Result<Option<Command>, Memory>
+    ensures { IfOk result (λ command. command ≡ spec.audit_of (map string_bytes words.now)) }
+{
+    let audit = clap::Command::new(alloc, "audit");
+    match audit.try_get_matches_from(words) {
+        Ok(_matches) => Ok(Some(Command::Audit)),
         Err(error) => refusal(error.kind()),
     }
 }
@@ -138,8 +191,12 @@ pub fn read_words(alloc: Global, words: &[String]) -> Result<Option<Command>, Me
     match name.as_str() {
         "replay" => read_replay(alloc, words),
         "table" => read_table(alloc, words),
-        "serve" => read_serve(alloc, words),
+        "serve" => {
+            let streams = read_serve(alloc, words)?;
+            Ok(streams.map(|_| Command::Serve))
+        }
         "tagged" => read_tagged(alloc, words),
+        "audit" => read_audit(alloc, words),
         _ => Ok(None),
     }
 }

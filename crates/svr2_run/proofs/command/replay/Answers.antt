@@ -1,22 +1,21 @@
-use Rattle.std.proofs.Common.{ap}
-use Rattle.svr2_run.specs.Trace.{course_from}
-use Rattle.svr2_run.specs.Worlds.{course_of}
-use Rattle.svr2_run.specs.declared.words.Play.TheVariants.{Replay}
-use Rattle.svr2_run.proofs.Runs.{never_field, never_frame, one_ends, told_decided, told_runs}
+use Rattle.std.proofs.Common.{refl, Some}
+use Rattle.group_world.specs.Scripts.{map_of}
+use Rattle.svr2_run.proofs.Refusals.{replay_refuses}
+use Rattle.svr2_run.proofs.Replays.{never_fails, none_rose, told_decided, told_replays}
 use Rattle.svr2_run.proofs.command.replay.Goals as goal
 
 pub returns-clause-runs : goal.returns-clause-runs
 returns-clause-runs g c =
-    told_runs Replay _ _ _ _ c.play_source.result c.status_of.result c.status_of.ensures c.play_source.ensures.own_cause
-    (one_ends course_of _ c.play_source.new.player Replay _ _ _ _ c.play_source.result (ap course_from c.new-voter.ensures) c.play_source.ensures.ends)
+    told_replays c.calls_are_named.ensures.played (Some (map_of c.new.result)) _ _ _ _ c.play-played.result.0 c.status_played.result c.status_played.ensures refl
+    c.play-played.ensures.field_cause c.play-played.ensures.trace
 
 pub returns-clause-decided : goal.returns-clause-decided
 returns-clause-decided g c =
-    told_decided Replay _ _ _ _ c.play_source.result c.status_of.result _ _ c.status_of.ensures c.play_source.ensures.read_cause c.play_source.ensures.write_cause c.play_source.ensures.own_cause
-    (one_ends course_of _ c.play_source.new.player Replay _ _ _ _ c.play_source.result (ap course_from c.new-voter.ensures) c.play_source.ensures.ends)
+    told_decided c.calls_are_named.ensures.played (Some (map_of c.new.result)) _ _ _ c.play-played.result.0 c.status_played.result _ _ _ c.status_played.ensures refl none_rose
+    c.play-played.ensures.decided
 
 pub returns-clause-never_field : goal.returns-clause-never_field
-returns-clause-never_field g c = never_field c.play_source.result c.status_of.result c.status_of.ensures c.play_source.ensures.own_cause
+returns-clause-never_field g c = never_fails c.play-played.result.0 c.status_played.result c.status_played.ensures c.play-played.ensures.field_cause
 
-pub returns-clause-never_frame : goal.returns-clause-never_frame
-returns-clause-never_frame g c = never_frame c.play_source.result c.status_of.result c.status_of.ensures
+pub returns-clause-never_refused : goal.returns-clause-never_refused
+returns-clause-never_refused g c = replay_refuses c.play-played.result.0 c.status_played.result c.status_played.ensures

@@ -1,12 +1,82 @@
-use Rattle.std.proofs.Common.{map, string_bytes}
-use Rattle.svr2_run.specs.Words.{tagging_of}
-use Rattle.svr2_run.proofs.Runs.{unread_run}
+use Rattle.std.proofs.Common.{rules, ◌≡◌, map, string_bytes, Some}
+use Rattle.replica_model.specs.Linked.{sha_link}
+use Rattle.svr2_run.specs.Words.{command_of, tagging_of}
+use Rattle.svr2_run.specs.declared.words.Command.TheVariants as command
+use Rattle.svr2_run.specs.declared.words.Play.TheVariants.{Replay, Table}
+use Rattle.svr2_run.proofs.Auditing.{unread_audit, unread_decides}
 use Rattle.svr2_run.proofs.Serves.{unread_session}
+use Rattle.svr2_run.proofs.Unread.{command_plays, memory_is_no_frame, unread_run}
 use Rattle.svr2_run.proofs.command.run.Goals as goal
 
-pub returns-in-Err-clause-memory : goal.returns-in-Err-clause-memory
-returns-in-Err-clause-memory g c e = unread_run _ _ _
+pub returns-in-Ok-Some-Play-Replay-clause-plays : goal.returns-in-Ok-Some-Play-Replay-clause-plays
+returns-in-Ok-Some-Play-Replay-clause-plays g c =
+    let is : command_of (map string_bytes c.args.words.now) ≡ Some (command.Play Replay) = search rules in
+    command_plays _ Replay _ is c.replay.ensures.runs
+
+pub returns-in-Ok-Some-Play-Replay-clause-decided : goal.returns-in-Ok-Some-Play-Replay-clause-decided
+returns-in-Ok-Some-Play-Replay-clause-decided g c =
+    let is : command_of (map string_bytes c.args.words.now) ≡ Some (command.Play Replay) = search rules in
+    command_plays _ Replay _ is c.replay.ensures.decided
+
+pub returns-in-Ok-Some-Play-Replay-clause-reports : goal.returns-in-Ok-Some-Play-Replay-clause-reports
+returns-in-Ok-Some-Play-Replay-clause-reports g c = c.schedule_reports.ensures.played sha_link
+
+pub returns-in-Ok-Some-Play-Table-clause-plays : goal.returns-in-Ok-Some-Play-Table-clause-plays
+returns-in-Ok-Some-Play-Table-clause-plays g c =
+    let is : command_of (map string_bytes c.args.words.now) ≡ Some (command.Play (Table c.in-Ok-Some-Play-Table.limit)) = search rules in
+    command_plays _ (Table c.in-Ok-Some-Play-Table.limit) _ is c.table.ensures.runs
+
+pub returns-in-Ok-Some-Play-Table-clause-decided : goal.returns-in-Ok-Some-Play-Table-clause-decided
+returns-in-Ok-Some-Play-Table-clause-decided g c =
+    let is : command_of (map string_bytes c.args.words.now) ≡ Some (command.Play (Table c.in-Ok-Some-Play-Table.limit)) = search rules in
+    command_plays _ (Table c.in-Ok-Some-Play-Table.limit) _ is c.table.ensures.decided
+
+pub returns-in-Ok-Some-Play-Table-clause-reports : goal.returns-in-Ok-Some-Play-Table-clause-reports
+returns-in-Ok-Some-Play-Table-clause-reports g c = c.schedule_reports.ensures.played sha_link
+
+pub returns-in-Ok-Some-Serve-clause-reports : goal.returns-in-Ok-Some-Serve-clause-reports
+returns-in-Ok-Some-Serve-clause-reports g c = c.schedule_reports.ensures.played sha_link
+
+pub returns-in-Ok-Some-Tagged-clause-reports : goal.returns-in-Ok-Some-Tagged-clause-reports
+returns-in-Ok-Some-Tagged-clause-reports g c = c.schedule_reports.ensures.played sha_link
+
+pub returns-in-Ok-None-clause-reports : goal.returns-in-Ok-None-clause-reports
+returns-in-Ok-None-clause-reports g c = c.schedule_reports.ensures.played sha_link
+
+pub returns-in-Err-clause-reports : goal.returns-in-Err-clause-reports
+returns-in-Err-clause-reports g c = c.schedule_reports.ensures.played sha_link
+
+pub returns-in-Err-clause-plays : goal.returns-in-Err-clause-plays
+returns-in-Err-clause-plays g c = unread_run _ _ _
 
 pub returns-in-Err-clause-serves : goal.returns-in-Err-clause-serves
 returns-in-Err-clause-serves g c =
     unread_session (tagging_of (map string_bytes c.args.words.now)) (g.S.Source.left c.args.source.now) (g.K.Sink.taken c.args.sink.now)
+
+pub returns-in-Ok-Some-Play-Replay-clause-frame_serves : goal.returns-in-Ok-Some-Play-Replay-clause-frame_serves
+returns-in-Ok-Some-Play-Replay-clause-frame_serves g c =
+    let is : command_of (map string_bytes c.args.words.now) ≡ Some (command.Play Replay) = search rules in
+    command_plays _ Replay _ is tt
+
+pub returns-in-Ok-Some-Play-Table-clause-frame_serves : goal.returns-in-Ok-Some-Play-Table-clause-frame_serves
+returns-in-Ok-Some-Play-Table-clause-frame_serves g c =
+    let is : command_of (map string_bytes c.args.words.now) ≡ Some (command.Play (Table c.in-Ok-Some-Play-Table.limit)) = search rules in
+    command_plays _ (Table c.in-Ok-Some-Play-Table.limit) _ is c.table.ensures.never_frame
+
+pub returns-in-Err-clause-frame_serves : goal.returns-in-Err-clause-frame_serves
+returns-in-Err-clause-frame_serves g c = memory_is_no_frame _
+
+pub returns-in-Ok-Some-Audit-clause-audits : goal.returns-in-Ok-Some-Audit-clause-audits
+returns-in-Ok-Some-Audit-clause-audits g c = λ is. c.audit.ensures.audits
+
+pub returns-in-Ok-Some-Audit-clause-trace_decides : goal.returns-in-Ok-Some-Audit-clause-trace_decides
+returns-in-Ok-Some-Audit-clause-trace_decides g c = λ is. c.audit.ensures.decided
+
+pub returns-in-Ok-Some-Audit-clause-reports : goal.returns-in-Ok-Some-Audit-clause-reports
+returns-in-Ok-Some-Audit-clause-reports g c = c.schedule_reports.ensures.played sha_link
+
+pub returns-in-Err-clause-audits : goal.returns-in-Err-clause-audits
+returns-in-Err-clause-audits g c = λ is. unread_audit _ _
+
+pub returns-in-Err-clause-trace_decides : goal.returns-in-Err-clause-trace_decides
+returns-in-Err-clause-trace_decides g c = λ is. unread_decides _ _ _

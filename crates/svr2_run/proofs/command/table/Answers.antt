@@ -1,21 +1,22 @@
-use Rattle.std.proofs.Common.{ap}
-use Rattle.table_command.specs.Course.{course_from}
-use Rattle.svr2_run.specs.declared.words.Play.TheVariants.{Table}
-use Rattle.svr2_run.proofs.Runs.{never_field, never_frame, one_ends, told_decided, told_runs}
+use Rattle.svr2_run.proofs.Refusals.{table_refuses}
+use Rattle.svr2_run.proofs.Tables.{never_field, never_frame, one_ends, told_decided, told_runs}
 use Rattle.svr2_run.proofs.command.table.Goals as goal
 
 pub returns-clause-runs : goal.returns-clause-runs
 returns-clause-runs g c =
-    told_runs (Table c.args.rows) _ _ _ _ c.play_source.result c.status_of.result c.status_of.ensures c.play_source.ensures.own_cause
-    (one_ends course_from _ c.play_source.new.player (Table c.args.rows) _ _ _ _ c.play_source.result (ap course_from c.new-player.ensures) c.play_source.ensures.ends)
+    told_runs c.args.rows _ _ _ _ c.play_source.result c.status_of.result c.status_of.ensures c.play_source.ensures.own_cause
+    (one_ends c.args.rows _ c.play_source.new.player _ _ _ _ c.play_source.result c.new-player.ensures c.play_source.ensures.ends)
 
 pub returns-clause-decided : goal.returns-clause-decided
 returns-clause-decided g c =
-    told_decided (Table c.args.rows) _ _ _ _ c.play_source.result c.status_of.result _ _ c.status_of.ensures c.play_source.ensures.read_cause c.play_source.ensures.write_cause c.play_source.ensures.own_cause
-    (one_ends course_from _ c.play_source.new.player (Table c.args.rows) _ _ _ _ c.play_source.result (ap course_from c.new-player.ensures) c.play_source.ensures.ends)
+    told_decided c.args.rows _ _ _ _ c.play_source.result c.status_of.result _ _ c.status_of.ensures c.play_source.ensures.read_cause c.play_source.ensures.write_cause c.play_source.ensures.own_cause
+    (one_ends c.args.rows _ c.play_source.new.player _ _ _ _ c.play_source.result c.new-player.ensures c.play_source.ensures.ends)
 
 pub returns-clause-never_field : goal.returns-clause-never_field
 returns-clause-never_field g c = never_field c.play_source.result c.status_of.result c.status_of.ensures c.play_source.ensures.own_cause
 
 pub returns-clause-never_frame : goal.returns-clause-never_frame
 returns-clause-never_frame g c = never_frame c.play_source.result c.status_of.result c.status_of.ensures
+
+pub returns-clause-never_refused : goal.returns-clause-never_refused
+returns-clause-never_refused g c = table_refuses c.play_source.result c.status_of.result c.status_of.ensures

@@ -1,4 +1,4 @@
-use Rattle.std.proofs.Common.{rules, refl, ap, sym, ◌∙◌, ◌≡◌, map, string_bytes, option_map}
+use Rattle.std.proofs.Common.{refl, map, string_bytes, option_map}
 use Rattle.clap.specs.Words.{app_of}
 use Rattle.svr2_run.specs.Words.{replay_app}
 use Rattle.svr2_run.specs.declared.words.Command.TheVariants.{Play}

@@ -1,4 +1,4 @@
-use Rattle.std.proofs.Common.{rules, refl, ap, ap₂, sym, ◌∙◌, ◌≡◌, codes, map, string_bytes, option_map, Some}
+use Rattle.std.proofs.Common.{rules, refl, ap, ap₂, ◌∙◌, ◌≡◌, codes, map, string_bytes, option_map, Some}
 use Rattle.clap.specs.Words.{Rule, app_of, new_rule, rule_of, with_rule}
 use Rattle.svr2_run.specs.Words.{limit_of, table_app}
 use Rattle.svr2_run.specs.declared.words.Command.TheVariants.{Play}

@@ -9,4 +9,5 @@ returns-in_default-as_str-clause-command c =
       (λ e. c.in_default-as_str.not-table (c.as_str.ensures.value ∙ e)),
       (λ e. c.in_default-as_str.not-serve (c.as_str.ensures.value ∙ e)),
       (λ e. c.in_default-as_str.not-tagged (c.as_str.ensures.value ∙ e)),
+      (λ e. c.in_default-as_str.not-audit (c.as_str.ensures.value ∙ e)),
     )

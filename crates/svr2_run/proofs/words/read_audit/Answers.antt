@@ -1,0 +1,11 @@
+use Rattle.std.proofs.Common.{rules, refl, map, string_bytes, option_map}
+use Rattle.clap.specs.Words.{app_of}
+use Rattle.svr2_run.specs.Words.{audit_app}
+use Rattle.svr2_run.specs.declared.words.Command.TheVariants.{Audit}
+use Rattle.svr2_run.proofs.Parses.{refused}
+use Rattle.svr2_run.proofs.words.read_audit.Goals as goal
+
+pub returns-in-Err : goal.returns-in-Err
+returns-in-Err c =
+    refused (app_of c.new-audit.result) audit_app (map string_bytes c.args.words.now) c.in-Err.error c.refusal.result (option_map (λ rows. Audit)) c.new-audit.ensures.app refl
+    c.in-Err.ensures.kinds refl c.refusal.ensures.none (rw c.kind.ensures at c.refusal.ensures.refused)
