@@ -1,28 +1,35 @@
 -- Each run without a rollback and without a collision stands beside the machine, and so has its laws.
-use Rattle.std.proofs.Common.{◌≡◌, ℕ, true, inl, inr, Option, Some, None, Result, Ok, Err, List, [], ◌∷◌, ◌++◌, refl, sym, ap, ◌∙◌, subst}
-use Rattle.std.specs.Prelude.{fold}
+use Rattle.std.proofs.Common.{◌≡◌, ℕ, suc, Bool, true, false, inl, inr, Option, Some, None, Ok, List, [], ◌∷◌, ◌++◌, map, refl, sym, ap, subst, arith}
+use Rattle.std.proofs.lemmas.List.{append-nil}
 use Rattle.std.specs.List.{AllByRecursion}
 use Rattle.std.proofs.lemmas.Option.{none-some, same_Some}
 use Rattle.values.specs.declared.event.Event.{Event}
-use Rattle.values.specs.declared.event.Event.TheVariants as event
 use Rattle.group_quorum.specs.Conf.{Conf}
 use Rattle.group_quorum.specs.Voters.{conf_of, is_in}
-use Rattle.group_quorum.specs.declared.ConfigFault.{ConfigFault}
 use Rattle.replica_model.specs.Path.{Path, Link}
-use Rattle.group_model.specs.Group.{Setup}
+use Rattle.replica_model.specs.Keyed.{value_at}
+use Rattle.replica_model.specs.Replica.{Replica, learner}
+use Rattle.replica_model.specs.Message.{Message}
+use Rattle.replica_model.specs.Call.{Call, still}
+use Rattle.group_model.specs.Enclave.{Learn, HostInput, Peer, Roll, Connect, Enclave, called, rolls_to}
+use Rattle.group_model.specs.Group.{Setup, sent_by}
 use Rattle.group_model.specs.Happens as happening
-use Rattle.group_model.specs.Happens.{happens}
-use Rattle.group_model.specs.Run.{Recorded, Enclaves, World, no_enclaves, enclaves, group_after, run, empty_world}
+use Rattle.group_model.specs.Run.{Recorded, Enclaves, World, moves, no_enclaves, start_enclave, enclaves, run}
 use Rattle.group_model.specs.Log.{AnyByRecursion, IsFrontOf, NoCollision, state_of}
 use Rattle.group_model.specs.Halts.{LedIn, HoldsEnough, PromiseLies, HaltLaws, NoHalt}
 use Rattle.log_laws.proofs.Chain.{NoCollisionIn}
-use Rattle.log_laws.proofs.History.{HeldIn, all_more}
+use Rattle.log_laws.proofs.History.{with_call, HeldIn, all_more, none_larger}
+use Rattle.log_laws.proofs.Moving.{all_numbered}
+use Rattle.event_walk.specs.Cases.{Handing, Ticked, Saved, Joins, Admits, Removes, Margins, Delivered, Asked, Said, handed, Survives}
+use Rattle.event_walk.proofs.Walk as walk
 use Rattle.path_machine.specs.Machine.{Machine, In}
 use Rattle.path_machine.specs.Laws as machine
 use Rattle.path_machine.specs.Changes.{is_rising, is_single_change}
 use Rattle.path_machine.proofs.Rising.{made_rises}
-use Rattle.halt_laws.proofs.Moving.{EnoughIn, Recounted, Simulated}
-use Rattle.halt_laws.proofs.Events.{Goes, acts_goes}
+use Rattle.halt_laws.proofs.Moving.{EnoughIn, MailFits, Recounted, Simulated, stopped_simulated}
+use Rattle.halt_laws.proofs.Onward.{still_went}
+use Rattle.halt_laws.proofs.Stepping.{HostInputFits}
+use Rattle.halt_laws.proofs.Events.{called_simulated, idle_simulated, learner_simulated}
 use Rattle.halt_laws.proofs.Begun.{begun, made_ids}
 
 -- what the world keeps: before the group has begun it has nothing
@@ -31,59 +38,100 @@ record KeptWorld (link : Link) (w : World) : Type 0 where
   early : w.setup ≡ None → (w.field ≡ no_enclaves) × (w.messages ≡ [])
   kept : NoCollisionIn link (HeldIn w.field.history) → w.rolled ≡ [] → (setup : Setup) → w.setup ≡ Some setup → Simulated link setup.first (is_in setup.first.voters) w.started w.messages w.field
 
-module _ (link : Link) (w g : World) (k : KeptWorld link g) where
-  -- the begin event
-  begins_kept : (limit margin : ℕ) (voters : List ℕ) (r : Result Conf ConfigFault) → conf_of margin voters ≡ r → g.setup ≡ None → KeptWorld link (group_after w (happening.begins (enclaves link) limit r g))
-  begins_kept limit margin voters (Err fault) made unset = k
-  begins_kept limit margin voters (Ok c) made unset =
-      let rises : is_rising c.voters ≡ true = made_rises margin voters c made in
+module _ (link : Link) (w : World) (k : KeptWorld link w) where
+  -- where a replica runs, the group has begun
+  has_begun : (v : ℕ) (e : Enclave) → value_at w.field.running v ≡ Some e → w.setup ≡ None → ⊥
+  has_begun v e is unset = none-some e (subst (λ (f : Enclaves). value_at f.running v ≡ Some e) (k.early unset).0 is)
+
+  begins : (limit margin : ℕ) (voters : List ℕ) (c : Conf) → conf_of margin voters ≡ Ok c → w.setup ≡ None → Simulated link c (is_in c.voters) c.voters w.messages (happening.starts_all (enclaves link) w.field c limit c.voters)
+  begins limit margin voters c made unset =
       let early = k.early unset in
-      let now : Simulated link c (is_in c.voters) c.voters g.messages (happening.starts_all (enclaves link) g.field c limit c.voters) =
-      subst (λ (f : Enclaves). Simulated link c (is_in c.voters) c.voters g.messages (happening.starts_all (enclaves link) f c limit c.voters)) (sym early.0)
+      subst (λ (f : Enclaves). Simulated link c (is_in c.voters) c.voters w.messages (happening.starts_all (enclaves link) f c limit c.voters)) (sym early.0)
       (subst (λ m. Simulated link c (is_in c.voters) c.voters m (happening.starts_all (enclaves link) no_enclaves c limit c.voters)) (sym early.1)
-      (begun link c limit rises (made_ids margin voters c made))) in
-      record {
-        rising = λ setup is. subst (λ (s : Setup). is_rising s.first.voters ≡ true) (same_Some (record { limit = limit; first = c }) setup is) rises;
-        early = λ never. absurd (none-some (record { limit = limit; first = c }) (sym never));
-        kept = λ none unrolled setup is. subst (λ (s : Setup). Simulated link s.first (is_in s.first.voters) c.voters g.messages (happening.starts_all (enclaves link) g.field c limit c.voters)) (same_Some (record { limit = limit; first = c }) setup is) now;
-      }
+      (begun link c limit (made_rises margin voters c made) (made_ids margin voters c made)))
 
-  -- before it nothing else happens
-  first_kept : (e : Event) → g.setup ≡ None → KeptWorld link (group_after w (happening.acts_first (enclaves link) e g))
-  first_kept (event.Begin margin limit voters) unset = begins_kept limit margin voters (conf_of margin voters) refl unset
-  first_kept e unset = k
+  -- a run beside the machine up to the last call, where there is no collision now
+  before_call : (v : ℕ) (before : Replica) (input : Option (HostInput Message)) (call : Call) → NoCollisionIn link (HeldIn (with_call w.field.history v before input call)) → w.rolled ≡ [] → (setup : Setup) → w.setup ≡ Some setup → Simulated link setup.first (is_in setup.first.voters) w.started w.messages w.field
+  before_call v before input call none = k.kept (none_larger link (HeldIn w.field.history) (HeldIn (with_call w.field.history v before input call)) (λ p h. inr h) none)
 
-  acts_in_kept : (o : Option Setup) (e : Event) → g.setup ≡ o → ((setup : Setup) → g.setup ≡ Some setup → Goes link setup.first (is_in setup.first.voters) g w) → KeptWorld link (group_after w (happening.acts_in (enclaves link) o e g))
-  acts_in_kept None e is same = first_kept e is
-  acts_in_kept (Some setup) e is same =
-      let after : World = group_after w (happening.acts (enclaves link) e g) in
-      let goes : Goes link setup.first (is_in setup.first.voters) g after =
-      acts_goes link setup.first (k.rising setup is) (is_in setup.first.voters) w g (λ none unrolled. k.kept none unrolled setup is) (same setup is) e in
-      record {
-        rising = λ s set. k.rising s (sym goes.as_set ∙ set);
-        early = λ unset. absurd (none-some setup (sym unset ∙ (goes.as_set ∙ is)));
-        kept = λ none unrolled s set. subst (λ (x : Setup). Simulated link x.first (is_in x.first.voters) after.started after.messages after.field) (same_Some setup s (sym is ∙ (sym goes.as_set ∙ set))) (goes.kept none unrolled);
-      }
+  -- what is handed stands beside what was sent
+  fits_handed : (first : Conf) (holds : ℕ → Bool) (old : Simulated link first holds w.started w.messages w.field) (v : ℕ) (h : Handing w v) → HostInputFits link first (HeldIn w.field.history) old.machine.history.messages v (handed h)
+  fits_handed first holds old v (Delivered j m is to) =
+      subst (λ u. HostInputFits link first (HeldIn w.field.history) old.machine.history.messages u (Peer m.from m.to m.message)) (sym to)
+      (all_numbered (MailFits link first w.field.history old.machine.history.messages) w.messages j m is old.mail)
+  fits_handed first holds old v Ticked = tt
+  fits_handed first holds old v Saved = tt
+  fits_handed first holds old v (Joins id) = tt
+  fits_handed first holds old v (Admits id) = tt
+  fits_handed first holds old v (Removes id) = tt
+  fits_handed first holds old v (Margins margin) = tt
+  fits_handed first holds old v (Asked client number request before is) = tt
+  fits_handed first holds old v (Said client core number request has says) = tt
 
--- one event
-event_kept : (link : Link) (w : World) (e : Event) → KeptWorld link w → KeptWorld link (group_after w (happens (enclaves link) e w))
-event_kept link w e k =
-    let g : World = record w { past = e ∷ w.past } in
-    acts_in_kept link w g (record { rising = k.rising; early = k.early; kept = k.kept }) w.setup e refl
-    (λ setup is. record { as_set = refl; grows = λ p h. h; unrolled = λ h. h; kept = λ none unrolled. k.kept none unrolled setup is })
+  module _ (setup : Setup) (set : w.setup ≡ Some setup) (unrolled : w.rolled ≡ []) where
+    abbrev first : Conf
+    first = setup.first
 
--- all events
-events_kept : (link : Link) (events : List Event) (w : World) → KeptWorld link w → KeptWorld link (fold (λ w e. group_after w (happens (enclaves link) e w)) w events)
-events_kept link [] w k = k
-events_kept link (e ∷ events) w k = events_kept link events (group_after w (happens (enclaves link) e w)) (event_kept link w e k)
+    abbrev holds : ℕ → Bool
+    holds = is_in setup.first.voters
+
+    starts : (x : ℕ) → is_in w.started (suc x) ≡ false → NoCollisionIn link (HeldIn (with_call w.field.history (suc x) (learner (suc x)) None (still (learner (suc x))))) → Simulated link first holds (suc x ∷ w.started) w.messages (start_enclave w.field (Learn (suc x) w.running))
+    starts x new none =
+        learner_simulated link first holds w.started w.messages w.field (before_call (suc x) (learner (suc x)) None (still (learner (suc x))) none unrolled setup set) (suc x) w.running new (omega arith)
+
+    connects : (x r : ℕ) (e : Enclave) → value_at w.field.running r ≡ Some e → NoCollisionIn link (HeldIn (with_call w.field.history r e.replica (Some (Connect x)) (called link e (Connect x)).call)) → Simulated link first holds w.started w.messages (moves w.field r e.replica (Some (Connect x)) (called link e (Connect x)))
+    connects x r e is none =
+        let old = before_call r e.replica (Some (Connect x)) (called link e (Connect x)).call none unrolled setup set in
+        subst (λ m. Simulated link first holds w.started m (moves w.field r e.replica (Some (Connect x)) (called link e (Connect x)))) (append-nil w.messages)
+        (idle_simulated link first holds w.started w.messages w.field old r e (Some (Connect x)) (called link e (Connect x)) is refl
+        (still_went link first holds (HeldIn (with_call w.field.history r e.replica (Some (Connect x)) (called link e (Connect x)).call)) old.machine r e.replica (old.states r e is).0))
+
+    calls : (v : ℕ) (h : Handing w v) (e : Enclave) → value_at w.field.running v ≡ Some e → NoCollisionIn link (HeldIn (with_call w.field.history v e.replica (Some (handed h)) (called link e (handed h)).call)) → Simulated link first holds w.started (w.messages ++ map (sent_by v) (called link e (handed h)).call.sent) (moves w.field v e.replica (Some (handed h)) (called link e (handed h)))
+    calls v h e is none =
+        let old = before_call v e.replica (Some (handed h)) (called link e (handed h)).call none unrolled setup set in
+        called_simulated link first holds w.started w.messages w.field old (k.rising setup set) v e (handed h) is (fits_handed first holds old v h) none
+
+    refuses : (v j : ℕ) (e : Enclave) → value_at w.field.running v ≡ Some e → NoCollisionIn link (HeldIn (with_call w.field.history v e.replica (Some (Roll j)) (rolls_to e j None).call)) → Simulated link first holds w.started (w.messages ++ []) (moves w.field v e.replica (Some (Roll j)) (rolls_to e j None))
+    refuses v j e is none =
+        let old = before_call v e.replica (Some (Roll j)) (rolls_to e j None).call none unrolled setup set in
+        idle_simulated link first holds w.started w.messages w.field old v e (Some (Roll j)) (rolls_to e j None) is refl
+        (still_went link first holds (HeldIn (with_call w.field.history v e.replica (Some (Roll j)) (rolls_to e j None).call)) old.machine v e.replica (old.states v e is).0)
+
+survives : (link : Link) → Survives link (KeptWorld link)
+survives link = record {
+  counted = λ w e k. record { rising = k.rising; early = k.early; kept = k.kept };
+  begun = λ w limit margin voters c unset made k. record {
+    rising = λ setup is. subst (λ (s : Setup). is_rising s.first.voters ≡ true) (same_Some (record { limit = limit; first = c }) setup is) (made_rises margin voters c made);
+    early = λ never. absurd (none-some (record { limit = limit; first = c }) (sym never));
+    kept = λ none unrolled setup is. subst (λ (s : Setup). Simulated link s.first (is_in s.first.voters) c.voters w.messages (happening.starts_all (enclaves link) w.field c limit c.voters)) (same_Some (record { limit = limit; first = c }) setup is) (begins link w k limit margin voters c made unset);
+  };
+  started = λ w setup x set new k. record {
+    rising = k.rising;
+    early = λ unset. absurd (none-some setup (subst (λ o. o ≡ Some setup) unset set));
+    kept = λ none unrolled s is. starts link w k s is unrolled x new none;
+  };
+  connected = λ w x r e is k. record { rising = k.rising; early = λ unset. absurd (has_begun link w k r e is unset); kept = λ none unrolled s set. connects link w k s set unrolled x r e is none };
+  called = λ w v h e is k. record { rising = k.rising; early = λ unset. absurd (has_begun link w k v e is unset); kept = λ none unrolled s set. calls link w k s set unrolled v h e is none };
+  refused = λ w v j e is free k. record { rising = k.rising; early = λ unset. absurd (has_begun link w k v e is unset); kept = λ none unrolled s set. refuses link w k s set unrolled v j e is none };
+  -- a roll that is accepted makes its replica a rolled-back one
+  rolled = λ w v j e s is some k. record { rising = k.rising; early = λ unset. absurd (has_begun link w k v e is unset); kept = λ none rolls. absurd (let apart : v ∷ w.rolled ≡ [] = rolls in cc) };
+  stopped = λ w v k. record {
+    rising = k.rising;
+    early = λ unset. let early = k.early unset in (ap (λ (f : Enclaves). (enclaves link).stop f v) early.0, early.1);
+    kept = λ none unrolled s set. stopped_simulated link s.first (is_in s.first.voters) w.started w.messages w.field (k.kept none unrolled s set) v;
+  };
+  sorted = λ w lost waiting k. record { rising = k.rising; early = k.early; kept = k.kept };
+  wanted = λ w client want core is k. record { rising = k.rising; early = k.early; kept = k.kept };
+  heard = λ w client j a core is its has k. record { rising = k.rising; early = k.early; kept = k.kept };
+}
 
 run_kept : (link : Link) (events : List Event) → KeptWorld link (run link events)
-run_kept link events = events_kept link events empty_world
+run_kept link events = walk.run_keeps link (KeptWorld link) (survives link)
     (record {
       rising = λ setup is. absurd (none-some setup is);
       early = λ unset. (refl, refl);
       kept = λ none unrolled setup is. absurd (none-some setup is);
-    })
+    }) events
 
 module _ (m : Machine) (Enough : ℕ → Path → Type 0) where
   -- who led is recorded

@@ -1,32 +1,35 @@
 -- Each run keeps what a run keeps, and so has one log.
-use Rattle.std.proofs.Common.{◌≡◌, ℕ, true, inl, inr, Option, Some, None, Result, Ok, Err, List, [], ◌∷◌, ◌++◌, refl, sym, ◌∙◌, subst}
-use Rattle.std.specs.Prelude.{map, unwrap_or, fold, IfSome}
+use Rattle.std.proofs.Common.{◌≡◌, ℕ, suc, ◌==◌, true, false, inl, inr, Option, Some, None, List, [], ◌∷◌, ◌++◌, refl, sym, subst}
+use Rattle.std.proofs.lemmas.List.{append-nil}
+use Rattle.std.specs.Prelude.{map, unwrap_or, IfSome}
 use Rattle.std.specs.List.{AllByRecursion}
 use Rattle.std.proofs.lemmas.Bool.{or_left, or_right, eq-eqb}
 use Rattle.std.proofs.lemmas.Option.{none-some}
 use Rattle.values.specs.declared.entry.Body.TheVariants.{Members}
 use Rattle.values.specs.declared.event.Event.{Event}
-use Rattle.values.specs.declared.event.Event.TheVariants as event
 use Rattle.group_quorum.specs.Conf.{Conf}
 use Rattle.group_quorum.specs.Sharing.{QuorumsOutlast, CountsOverlap}
-use Rattle.group_quorum.specs.Voters.{conf_of, is_in}
-use Rattle.group_quorum.specs.declared.ConfigFault.{ConfigFault}
+use Rattle.group_quorum.specs.Voters.{is_in}
 use Rattle.replica_model.specs.Path.{Path, Link}
+use Rattle.replica_model.specs.Keyed.{value_at, without}
+use Rattle.replica_model.specs.Replica.{Replica, learner}
 use Rattle.replica_model.specs.Message.{Message}
-use Rattle.group_model.specs.Enclave.{Begin}
+use Rattle.replica_model.specs.Call.{Call, still}
+use Rattle.group_model.specs.Enclave.{Begin, Learn, HostInput, Roll, Connect, Enclave, called, rolls_to}
 use Rattle.group_model.specs.Group.{Setup, Sent}
 use Rattle.group_model.specs.Happens as happening
-use Rattle.group_model.specs.Happens.{happens}
-use Rattle.group_model.specs.Run.{Enclaves, World, no_enclaves, start_enclave, enclaves, group_after, run, empty_world}
+use Rattle.group_model.specs.Run.{Enclaves, World, no_enclaves, moves, start_enclave, enclaves, run}
 use Rattle.group_model.specs.Log.{setup_of, state_of, committed_path, fronts_of, log_of, WithinBound, NoCollision}
 use Rattle.group_model.specs.Log.{IsFrontOf}
 use Rattle.agreement.specs.Promised.{EachPlacePromised, Bears}
 use Rattle.agreement.proofs.Promised.{agree_each, each_nil}
 use Rattle.log_laws.specs.OneLog.{IsOneLog}
 use Rattle.log_laws.proofs.Chain.{NoCollisionIn}
-use Rattle.log_laws.proofs.History.{EverIn, HeldIn, ever_shorter, promised_held, none_larger, begin_longest}
-use Rattle.log_laws.proofs.Moving.{KeptRun, start_kept}
-use Rattle.log_laws.proofs.Events.{Goes, acts_goes}
+use Rattle.log_laws.proofs.History.{with_call, EverIn, HeldIn, ever_shorter, promised_held, none_larger, begin_longest}
+use Rattle.log_laws.proofs.Enclosed.{GoodHostInput}
+use Rattle.log_laws.proofs.Moving.{KeptRun, GoodMail, all_numbered, none_promised, started_more, stopped_kept, called_kept, idle_kept, rolled_kept, start_kept}
+use Rattle.event_walk.specs.Cases.{Handing, Ticked, Saved, Joins, Admits, Removes, Margins, Delivered, Asked, Said, handed, Survives}
+use Rattle.event_walk.proofs.Walk as walk
 
 -- what the world keeps: before the group has begun it has nothing
 pub record KeptWorld (link : Link) (w : World) : Type 0 where
@@ -69,63 +72,92 @@ starts_grow : (link : Link) (c : Conf) (limit : ℕ) (vs : List ℕ) (f : Enclav
 starts_grow link c limit [] f p h = h
 starts_grow link c limit (v ∷ vs) f p h = starts_grow link c limit vs (start_enclave f (Begin v c.margin limit c.voters)) p (inr h)
 
--- from one world to a later one: the history grows, and what is kept stays kept
-record GoesOn (link : Link) (w after : World) : Type 0 where
-  grows : (p : Path) → HeldIn w.field.history p → HeldIn after.field.history p
-  kept : NoCollisionIn link (HeldIn after.field.history) → KeptWorld link after
+-- without a collision in all that was ever held
+abbrev KeptSo : Link → World → Type 0
+KeptSo link w = NoCollisionIn link (HeldIn w.field.history) → KeptWorld link w
 
-module _ (link : Link) (w g : World) (same : GoesOn link g w) (k : NoCollisionIn link (HeldIn g.field.history) → KeptWorld link g) where
-  -- the begin event
-  begins_goes : (limit : ℕ) (r : Result Conf ConfigFault) → g.setup ≡ None → GoesOn link g (group_after w (happening.begins (enclaves link) limit r g))
-  begins_goes limit (Err fault) unset = record { grows = λ p h. h; kept = k }
-  begins_goes limit (Ok c) unset = record {
-    grows = starts_grow link c limit c.voters g.field;
-    kept = λ none.
-        let early = (k (none_larger link (HeldIn g.field.history) _ (starts_grow link c limit c.voters g.field) none)).early unset in
-        record {
-          kept = starts_kept link c limit g.rolled c.voters g.messages c.voters g.field
-              (nothing_kept link c g.rolled c.voters g.messages g.field early.0 early.1 early.2)
-              (λ u p ever. absurd (subst (λ h. EverIn h u p) early.0 ever))
-              (λ u h. h);
-          early = λ is. absurd (none-some (record { limit = limit; first = c }) (sym is));
-        };
-  }
+module _ (link : Link) (w : World) (k : KeptSo link w) where
+  abbrev first : Conf
+  first = (setup_of w).first
 
-  -- before it nothing else happens
-  first_goes : (e : Event) → g.setup ≡ None → GoesOn link g (group_after w (happening.acts_first (enclaves link) e g))
-  first_goes (event.Begin margin limit voters) unset = begins_goes limit (conf_of margin voters) unset
-  first_goes e unset = record { grows = λ p h. h; kept = k }
+  -- without a collision now there was none before the last call
+  before_call : (v : ℕ) (before : Replica) (input : Option (HostInput Message)) (call : Call) → NoCollisionIn link (HeldIn (with_call w.field.history v before input call)) → KeptWorld link w
+  before_call v before input call none = k (none_larger link (HeldIn w.field.history) (HeldIn (with_call w.field.history v before input call)) (λ p h. inr h) none)
 
-  acts_in_goes : (o : Option Setup) (e : Event) → g.setup ≡ o → Goes link (setup_of g).first g w → GoesOn link g (group_after w (happening.acts_in (enclaves link) o e g))
-  acts_in_goes None e is still = first_goes e is
-  acts_in_goes (Some setup) e is still =
-      let goes : Goes link (setup_of g).first g (group_after w (happening.acts (enclaves link) e g)) = acts_goes link (setup_of g).first w g (λ none. (k none).kept) still e in
+  -- where a replica runs, the group has begun
+  has_begun : KeptWorld link w → (v : ℕ) (e : Enclave) → value_at w.field.running v ≡ Some e → w.setup ≡ None → ⊥
+  has_begun old v e is unset = none-some e (subst (λ r. value_at r v ≡ Some e) (old.early unset).1 is)
+
+  begins : (c : Conf) (limit : ℕ) → w.setup ≡ None → KeptWorld link w → KeptRun link c w.rolled c.voters w.messages (happening.starts_all (enclaves link) w.field c limit c.voters)
+  begins c limit unset old =
+      let early = old.early unset in
+      starts_kept link c limit w.rolled c.voters w.messages c.voters w.field
+      (nothing_kept link c w.rolled c.voters w.messages w.field early.0 early.1 early.2)
+      (λ u p ever. absurd (subst (λ h. EverIn h u p) early.0 ever))
+      (λ u h. h)
+
+  starts : (x : ℕ) → is_in w.started (suc x) ≡ false → KeptWorld link w → KeptRun link first w.rolled (suc x ∷ w.started) w.messages (start_enclave w.field (Learn (suc x) w.running))
+  starts x new old =
+      start_kept link first w.rolled w.started w.messages w.field old.kept (Learn (suc x) w.running) tt (suc x ∷ w.started) (λ u. started_more w.started (suc x) u) (or_left (suc x == suc x) (is_in w.started (suc x)) (eq-eqb (suc x) (suc x) refl)) (λ p ever. absurd (none_promised w.field.history w.started (suc x) p new old.kept.recorded ever))
+
+  connects : (x r : ℕ) (e : Enclave) → value_at w.field.running r ≡ Some e → KeptWorld link w → KeptRun link first w.rolled w.started w.messages (moves w.field r e.replica (Some (Connect x)) (called link e (Connect x)))
+  connects x r e is old = subst (λ m. KeptRun link first w.rolled w.started m (moves w.field r e.replica (Some (Connect x)) (called link e (Connect x)))) (append-nil w.messages)
+      (idle_kept link first w.rolled w.started w.messages w.field old.kept r e (Some (Connect x)) (called link e (Connect x)).enclave.links (still e.replica) is refl)
+
+  good_handed : KeptWorld link w → (v : ℕ) (h : Handing w v) → GoodHostInput link first (EverIn w.field.history) (HeldIn w.field.history) (handed h)
+  good_handed old v (Delivered j m is to) = all_numbered (GoodMail link first w.field.history) w.messages j m is old.kept.mail
+  good_handed old v Ticked = tt
+  good_handed old v Saved = tt
+  good_handed old v (Joins id) = tt
+  good_handed old v (Admits id) = tt
+  good_handed old v (Removes id) = tt
+  good_handed old v (Margins margin) = tt
+  good_handed old v (Asked client number request before is) = tt
+  good_handed old v (Said client core number request has says) = tt
+
+survives : (link : Link) → Survives link (KeptSo link)
+survives link = record {
+  counted = λ w e k none. let old = k none in record { kept = old.kept; early = old.early };
+  begun = λ w limit margin voters c unset made k none.
+      let old = k (none_larger link (HeldIn w.field.history) _ (starts_grow link c limit c.voters w.field) none) in
+      record { kept = begins link w k c limit unset old; early = λ is. absurd (none-some (record { limit = limit; first = c }) (sym is)) };
+  started = λ w setup x set new k none.
+      let old = before_call link w k (suc x) (learner (suc x)) None (still (learner (suc x))) none in
+      record { kept = starts link w k x new old; early = λ unset. absurd (none-some setup (subst (λ o. o ≡ Some setup) unset set)) };
+  connected = λ w x r e is k none.
+      let old = before_call link w k r e.replica (Some (Connect x)) (called link e (Connect x)).call none in
+      record { kept = connects link w k x r e is old; early = λ unset. absurd (has_begun link w k old r e is unset) };
+  called = λ w v h e is k none.
+      let old = before_call link w k v e.replica (Some (handed h)) (called link e (handed h)).call none in
       record {
-        grows = goes.grows;
-        kept = λ none. record {
-          kept = subst (λ o. KeptRun link (unwrap_or {T = Setup} o (record { limit = 0; first = record { margin = 0; voters = [] } })).first (group_after w (happening.acts (enclaves link) e g)).rolled (group_after w (happening.acts (enclaves link) e g)).started (group_after w (happening.acts (enclaves link) e g)).messages (group_after w (happening.acts (enclaves link) e g)).field) (sym goes.as_set) (goes.kept none);
-          early = λ unset. absurd (none-some setup (sym unset ∙ (goes.as_set ∙ is)));
-        };
-      }
-
--- one event
-event_goes : (link : Link) (w : World) (e : Event) → (NoCollisionIn link (HeldIn w.field.history) → KeptWorld link w) → GoesOn link w (group_after w (happens (enclaves link) e w))
-event_goes link w e k =
-    let g : World = record w { past = e ∷ w.past } in
-    let on = acts_in_goes link w g (record { grows = λ p h. h; kept = k }) (λ none. let old = k none in record { kept = old.kept; early = old.early }) w.setup e refl
-    (record { as_set = refl; grows = λ p h. h; kept = λ none. (k none).kept }) in
-    record { grows = on.grows; kept = on.kept }
-
--- all events
-events_go : (link : Link) (events : List Event) (w : World) → (NoCollisionIn link (HeldIn w.field.history) → KeptWorld link w) → GoesOn link w (fold (λ w e. group_after w (happens (enclaves link) e w)) w events)
-events_go link [] w k = record { grows = λ p h. h; kept = k }
-events_go link (e ∷ events) w k =
-    let one = event_goes link w e k in
-    let rest = events_go link events (group_after w (happens (enclaves link) e w)) one.kept in
-    record { grows = λ p h. rest.grows p (one.grows p h); kept = rest.kept }
+        kept = called_kept link (setup_of w).first w.rolled w.started w.messages w.field old.kept v e (handed h) is (good_handed link w k old v h) none;
+        early = λ unset. absurd (has_begun link w k old v e is unset);
+      };
+  refused = λ w v j e is free k none.
+      let old = before_call link w k v e.replica (Some (Roll j)) (rolls_to e j None).call none in
+      record {
+        kept = idle_kept link (setup_of w).first w.rolled w.started w.messages w.field old.kept v e (Some (Roll j)) e.links (rolls_to e j None).call is refl;
+        early = λ unset. absurd (has_begun link w k old v e is unset);
+      };
+  rolled = λ w v j e s is some k none.
+      let old = before_call link w k v e.replica (Some (Roll j)) (still s) none in
+      record {
+        kept = rolled_kept link (setup_of w).first w.rolled w.started w.messages w.field old.kept v j e s is some;
+        early = λ unset. absurd (has_begun link w k old v e is unset);
+      };
+  stopped = λ w v k none.
+      let old = k none in
+      record {
+        kept = stopped_kept link (setup_of w).first w.rolled w.started w.messages w.field old.kept v;
+        early = λ unset. let early = old.early unset in (early.0, subst (λ (r : List (ℕ × Enclave)). without r v ≡ []) (sym early.1) refl, early.2);
+      };
+  sorted = λ w lost waiting k none. let old = k none in record { kept = old.kept; early = old.early };
+  wanted = λ w client want core is k none. let old = k none in record { kept = old.kept; early = old.early };
+  heard = λ w client j a core is its has k none. let old = k none in record { kept = old.kept; early = old.early };
+}
 
 pub run_kept : (link : Link) (events : List Event) → NoCollision link (run link events) → KeptWorld link (run link events)
-run_kept link events none = (events_go link events empty_world (λ no. record { kept = empty_kept link _ [] []; early = λ unset. (refl, refl, refl) })).kept none
+run_kept link events = walk.run_keeps link (KeptSo link) (survives link) (λ none. record { kept = empty_kept link _ [] []; early = λ unset. (refl, refl, refl) }) events
 
 -- where nothing has begun there is one log, and else by what is kept
 kept_one_log : QuorumsOutlast → CountsOverlap → (link : Link) (w : World) → KeptWorld link w → WithinBound w → IsOneLog w

@@ -13,6 +13,5 @@ mod Stepping
 pub mod History
 mod Enclosed
 pub mod Moving
-mod Events
 pub mod Kept
 mod Samples

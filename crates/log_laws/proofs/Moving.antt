@@ -3,7 +3,7 @@ use Rattle.std.proofs.Common.{◌≡◌, ℕ, Bool, true, false, ◌==◌, ◌||
 use Rattle.std.specs.Prelude.{map}
 use Rattle.std.specs.List.{AllByRecursion}
 use Rattle.std.proofs.lemmas.Bool.{cases_eq, or_parts, eq-eqb, both_ways}
-use Rattle.std.proofs.lemmas.Option.{same_Some}
+use Rattle.std.proofs.lemmas.Option.{none-some, same_Some}
 use Rattle.std.proofs.lemmas.List.{append-nil}
 use Rattle.values.specs.declared.entry.LogEntry.{LogEntry}
 use Rattle.group_quorum.specs.Conf.{Conf}
@@ -15,7 +15,7 @@ use Rattle.replica_model.specs.Message.{Message}
 use Rattle.replica_model.specs.Call.{Call, still}
 use Rattle.group_model.specs.Enclave.{Hello, Begin, Learn, hello_id, HostInput, Roll, Enclave, Called, called}
 use Rattle.group_model.specs.Enclave.{started as started_as}
-use Rattle.group_model.specs.Group.{Sent, sent_by}
+use Rattle.group_model.specs.Group.{Sent, numbered, sent_by}
 use Rattle.group_model.specs.Run.{Recorded, Enclaves, moves, newly, start_enclave}
 use Rattle.group_model.specs.Log.{state_of, committed_path, promised_path}
 use Rattle.group_model.specs.Log.{IsFrontOf}
@@ -61,6 +61,11 @@ pub all_get : {A : Type 0} (P : A → Type 0) (xs : List A) (i : ℕ) (x : A) �
 all_get P [] i x is h = cc
 all_get P (y ∷ xs) zero x is h = let same : y ≡ x = cc in subst P same h.0
 all_get P (y ∷ xs) (suc i) x is h = all_get P xs i x is h.1
+
+-- as things are numbered, from 1
+pub all_numbered : {A : Type 0} (P : A → Type 0) (xs : List A) (k : ℕ) (x : A) → numbered xs k ≡ Some x → AllByRecursion P xs → P x
+all_numbered P xs zero x is h = absurd (none-some x is)
+all_numbered P xs (suc k) x is h = all_get P xs k x is h
 
 -- a voter is started with the first configuration of the run
 abbrev pub IsOf : Conf → Hello → Type 0

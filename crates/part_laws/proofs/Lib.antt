@@ -7,3 +7,4 @@ mod Map
 mod Sessions
 pub mod Handed
 pub mod Played
+mod DrivenPlayed

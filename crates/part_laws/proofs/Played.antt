@@ -21,36 +21,39 @@ use Rattle.part_laws.specs.Named.{AreNamed, played_from, with_enclaves, PlayedCa
 use Rattle.part_laws.proofs.Walk.{Keeps, Leaves, happens_keeps}
 use Rattle.part_laws.proofs.Handed.{calls_are_named}
 
-module _ (link : Link) where
-  abbrev Play : Type 0
-  Play = Playing Message Enclaves
+-- ---- what holds where each piece ends
 
-  abbrev IsOfRun : World → Type 0
-  IsOfRun w = (events : List Event) × (w ≡ run link events)
+module _ {S : Type 0} (Good : S → Type 0) where
+  abbrev pub Ends : Written S → Type 0
+  Ends x = Good (last_of x)
 
-  abbrev AreOfRun : Enclaves → Type 0
-  AreOfRun f = (events : List Event) × (f ≡ (run link events).field)
-
-  -- the group is that of a run, and so are the enclaves where they stand
-  record Stands (p : Play) : Type 0 where
-    group : IsOfRun p.group
-    stands : AreOfRun p.stands
-
-  abbrev Ends : Written Play → Type 0
-  Ends x = Stands (last_of x)
-
-  onto_ends : (text : List ℕ) (x : Written Play) → Ends x → Ends (onto text x)
+  onto_ends : (text : List ℕ) (x : Written S) → Ends x → Ends (onto text x)
   onto_ends text (On more p) h = h
   onto_ends text (Off more stop p) h = h
 
-  follow_ends : (x : Written Play) (next : Play → Written Play) → Ends x → ((p : Play) → Stands p → Ends (next p)) → Ends (follow x next)
+  pub follow_ends : (x : Written S) (next : S → Written S) → Ends x → ((p : S) → Good p → Ends (next p)) → Ends (follow x next)
   follow_ends (On text p) next h later = onto_ends text (next p) (later p h)
   follow_ends (Off text stop p) next h later = h
 
-  all_end : {A : Type 0} (piece : Play → A → Written Play) → ((p : Play) (a : A) → Stands p → Ends (piece p a)) → (p : Play) (xs : List A) → Stands p → Ends (all_written piece p xs)
+  pub all_end : {A : Type 0} (piece : S → A → Written S) → ((p : S) (a : A) → Good p → Ends (piece p a)) → (p : S) (xs : List A) → Good p → Ends (all_written piece p xs)
   unfolding all_written
   all_end piece each p [] h = h
   all_end piece each p (a ∷ rest) h = follow_ends (piece p a) (λ q. all_written piece q rest) (each p a h) (λ q good. all_end piece each q rest good)
+
+module _ (link : Link) where
+  abbrev pub Play : Type 0
+  Play = Playing Message Enclaves
+
+  abbrev pub IsOfRun : World → Type 0
+  IsOfRun w = (events : List Event) × (w ≡ run link events)
+
+  abbrev pub AreOfRun : Enclaves → Type 0
+  AreOfRun f = (events : List Event) × (f ≡ (run link events).field)
+
+  -- the group is that of a run, and so are the enclaves where they stand
+  pub record Stands (p : Play) : Type 0 where
+    pub group : IsOfRun p.group
+    pub stands : AreOfRun p.stands
 
   -- ---- one event
   one_more : (events : List Event) (e : Event) → run link (events ++ e ∷ []) ≡ group_after (run link events) (happens (enclaves link) e (run link events))
@@ -69,50 +72,50 @@ module _ (link : Link) where
   keeps_nothing = record { start = λ messages f k hello. tt; call = λ messages f k v e input is sent. tt; stop = λ messages f k v. tt }
 
   module _ (p : Play) (good : Stands p) (e : Event) where
-    within_ends : (came : Came) (g : World) → IsOfRun g → (o : Option Quantity) → Ends (within_limits (enclaves link) p (happened_text p.group e came) g o)
+    within_ends : (came : Came) (g : World) → IsOfRun g → (o : Option Quantity) → Ends Stands (within_limits (enclaves link) p (happened_text p.group e came) g o)
     within_ends came g (events, is) None = record { group = (events, is); stands = (events, ap (λ (w : World). w.field) is) }
     within_ends came g (events, is) (Some passed) = record { group = good.group; stands = (events, ap (λ (w : World). w.field) is) }
 
-    happened_ends : (x : Happening Message Enclaves) → happens (enclaves link) e p.group ≡ x → Ends (happened (enclaves link) p e x)
+    happened_ends : (x : Happening Message Enclaves) → happens (enclaves link) e p.group ≡ x → Ends Stands (happened (enclaves link) p e x)
     happened_ends (Happened came g) is = within_ends came g (run_on p.group g e came good.group is) (passed_after g)
     happened_ends (Broken at f) is = absurd (subst (Leaves link Nothing keeps_nothing) is (happens_keeps link Nothing keeps_nothing p.group tt e))
     happened_ends Unanswered is = good
 
-    tried_ends : (o : Option Quantity) → Ends (tried (enclaves link) p e o)
+    tried_ends : (o : Option Quantity) → Ends Stands (tried (enclaves link) p e o)
     tried_ends (Some passed) = good
     tried_ends None = happened_ends (happens (enclaves link) e p.group) refl
 
-    played_ends : Ends (played (enclaves link) p e)
+    played_ends : Ends Stands (played (enclaves link) p e)
     played_ends = tried_ends (passed_before p.group e)
 
   -- ---- all of them
-  settled_ends : (n : ℕ) (p : Play) → Stands p → Ends (settled (enclaves link) n p)
+  settled_ends : (n : ℕ) (p : Play) → Stands p → Ends Stands (settled (enclaves link) n p)
   settled_ends zero p good = good
   settled_ends (suc n) p good = by_next (settled_ends n) (next_message p.group)
     where
-      by_next : ((q : Play) → Stands q → Ends (settled (enclaves link) n q)) → (o : Option ℕ) → Ends (elim o [ None ↦ On [] p | Some k ↦ follow (played (enclaves link) p (event.Deliver k)) (settled (enclaves link) n) ])
+      by_next : ((q : Play) → Stands q → Ends Stands (settled (enclaves link) n q)) → (o : Option ℕ) → Ends Stands (elim o [ None ↦ On [] p | Some k ↦ follow (played (enclaves link) p (event.Deliver k)) (settled (enclaves link) n) ])
       by_next rest None = good
-      by_next rest (Some k) = follow_ends (played (enclaves link) p (event.Deliver k)) (settled (enclaves link) n) (played_ends p good (event.Deliver k)) rest
+      by_next rest (Some k) = follow_ends Stands (played (enclaves link) p (event.Deliver k)) (settled (enclaves link) n) (played_ends p good (event.Deliver k)) rest
 
-  expanded_ends : (p : Play) (e : Event) → Stands p → Ends (expanded (enclaves link) p e)
+  pub expanded_ends : (p : Play) (e : Event) → Stands p → Ends Stands (expanded (enclaves link) p e)
   expanded_ends p (event.Settle n) good = settled_ends n p good
   expanded_ends p e good = played_ends p good e
 
-  counted_stands : (p : Play) → Stands p → Stands (counted p)
+  pub counted_stands : (p : Play) → Stands p → Stands (counted p)
   counted_stands p good = record { group = good.group; stands = good.stands }
 
-  said_ends : (p : Play) (r : Result (Option Event) RecordFault) → Stands p → Ends (said (enclaves link) p r)
+  said_ends : (p : Play) (r : Result (Option Event) RecordFault) → Stands p → Ends Stands (said (enclaves link) p r)
   said_ends p (Ok None) good = counted_stands p good
   said_ends p (Ok (Some e)) good = expanded_ends (counted p) e (counted_stands p good)
   said_ends p (Err fault) good = good
 
   played_stands : (records : List Record) → Stands (played_from link records)
   played_stands records =
-      all_end (record_played (enclaves link)) (λ p fields good. said_ends p (event_of false (is_some p.group.setup) fields) good) (playing empty_world) records
+      all_end Stands (record_played (enclaves link)) (λ p fields good. said_ends p (event_of false (is_some p.group.setup) fields) good) (playing empty_world) records
       (record { group = ([], refl); stands = ([], refl) })
 
   -- no two inputs collide in that run either
-  of_run : (w : World) (f : Enclaves) → AreOfRun f → NoCollision link (with_enclaves w f) → AreNamed link f
+  pub of_run : (w : World) (f : Enclaves) → AreOfRun f → NoCollision link (with_enclaves w f) → AreNamed link f
   of_run w f (events, is) none =
       subst (AreNamed link) (sym is) (calls_are_named link events (subst (λ (x : Enclaves). NoCollision link (with_enclaves w x)) is none))
 

@@ -6,7 +6,7 @@ use Rattle.values.specs.declared.peer.TablePart.{TablePart}
 use Rattle.values.specs.declared.peer.PeerMsg.{PeerMsg}
 use Rattle.values.specs.declared.peer.PeerMsg.TheVariants.{Part}
 use Rattle.record_cutting.specs.Lines.{Record}
-use Rattle.schedule_model.specs.Written.{last_of}
+use Rattle.schedule_model.specs.Written.{all_written, last_of}
 use Rattle.replica_model.specs.Path.{Link, same_point}
 use Rattle.replica_model.specs.Message.{Message}
 use Rattle.replica_model.specs.Replica.{Named, Taking, Role, Learner}
@@ -14,6 +14,8 @@ use Rattle.replica_model.specs.Tables.{IsTruePart, point_taken}
 use Rattle.group_model.specs.Enclave.{HostInput, Peer}
 use Rattle.group_model.specs.Log.{NoCollision}
 use Rattle.group_model.specs.Run.{Recorded, Enclaves, World, enclaves, empty_world, run}
+use Rattle.trace_model.specs.Driven.{Driving, driven_record}
+use Rattle.trace_model.specs.Driver.{new_driver}
 use Rattle.trace_model.specs.Trace.{Playing, playing, records_played}
 use Rattle.trace_model.specs.Schedules.{world_of, enclaves_of}
 
@@ -44,6 +46,10 @@ module _ (link : Link) where
   abbrev pub played_from : List Record → Playing Message Enclaves
   played_from records = last_of (records_played (enclaves link) (playing empty_world) records)
 
+  -- where playing these records ends, with every accepted want carried to its report
+  abbrev pub driven_from : List Record → Driving Message Enclaves
+  driven_from records = last_of (all_written (driven_record (enclaves link)) (record { playing = playing empty_world; driver = new_driver 0 }) records)
+
 -- the world with its enclaves in this state
 abbrev pub with_enclaves : World → Enclaves → World
 with_enclaves w f = record w { field = f }
@@ -64,3 +70,10 @@ abbrev pub ScheduleCallsAreNamed : Type 0
 ScheduleCallsAreNamed =
     (link : Link) (bytes : List ℕ) → NoCollision link (with_enclaves (world_of link bytes) (enclaves_of link bytes))
     → AreNamed link (enclaves_of link bytes)
+
+-- and so where clients are driven
+abbrev pub DrivenCallsAreNamed : Type 0
+DrivenCallsAreNamed =
+    (link : Link) (records : List Record)
+    → NoCollision link (with_enclaves (driven_from link records).playing.group (driven_from link records).playing.stands)
+    → AreNamed link (driven_from link records).playing.stands

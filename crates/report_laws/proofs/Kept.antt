@@ -1,6 +1,6 @@
 -- What a run keeps of one client: what was handed for it was said, and what it heard was answered.
 use Rattle.std.proofs.Common.{◌≡◌, ℕ, ◌+◌, ◌-◌, ◌≤◌, ◌==◌, inl, inr, Bool, true, false, Option, Some, None, Result, Ok, Err, List, [], ◌∷◌, ◌++◌, refl, sym, ap, subst, ◌∙◌, arith}
-use Rattle.std.specs.Prelude.{IsSomeAnd, option_map, filter_map, map, max, nat_lt, if◌then◌else◌}
+use Rattle.std.specs.Prelude.{option_map, filter_map, map, max, nat_lt, if◌then◌else◌}
 use Rattle.std.specs.List.{AllByRecursion, cons_option}
 use Rattle.std.proofs.lemmas.Bool.{eqb-true}
 use Rattle.std.proofs.lemmas.Option.{same_Some, none-some}
