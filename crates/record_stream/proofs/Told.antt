@@ -1,8 +1,8 @@
 -- How the playing of a source that tells ended.
-use Rattle.std.proofs.Common.{arith, refl, sym, ap, subst, ◌∙◌, ◌≡◌, ◌≤◌, ℕ, List, ◌++◌, length, take, true, Option, Some, None, IfSome, append-nil, length-append}
+use Rattle.std.proofs.Common.{arith, refl, sym, ap, subst, ◌∙◌, ◌≡◌, ◌≤◌, ℕ, List, [], ◌++◌, length, take, fold, false, true, Option, Some, None, IfSome, append-nil, length-append}
 use Rattle.std.proofs.lemmas.List.{take-append-le}
 use Rattle.std.specs.Io.KnownBytes.{Appends, Consumes}
-use Rattle.record_cutting.specs.Lines.{records_of}
+use Rattle.record_cutting.specs.Lines.{Record, records_of}
 use Rattle.record_stream.specs.Course.{Course, Outlook}
 use Rattle.record_stream.specs.Ends.{CanDecide, EndsOver, PlayedOver, ended_for, limit}
 use Rattle.record_stream.specs.Steps.{EndsAfter, EndsFrom}
@@ -35,9 +35,9 @@ decided_over a all left x y ended.WriteFault here small can h = absurd (can.1.1.
 decided_over a all left x y ended.Failed here small can h = absurd (can.1.1.1 refl)
 decided_over a all left x y ended.Memory here small can h = absurd (can.0 refl)
 
-module _ {S R W G : Type 0} (gains : S → S → List G → Type 0) (takes : S → Outlook W G) (course : W → Course R) where
-  pub told_plays : (p q : S) (read : List ℕ) (left left' x y : Option (List ℕ)) (r : Ended R) → Consumes left left' read → EndsFrom gains takes course p q read left' x y r
-      → IfSome left (λ all. PlayedOver gains takes course p q all left' x y r)
+module _ {S R W G : Type 0} (gains : S → S → List G → Type 0) (takes : S → Outlook W G) (course : W → Course R) (step : W → Record → W) where
+  pub told_plays : (p q : S) (read : List ℕ) (left left' x y : Option (List ℕ)) (r : Ended R) → Consumes left left' read → EndsFrom gains takes course step p q read left' x y r
+      → IfSome left (λ all. PlayedOver gains takes course step p q all left' x y r)
   told_plays p q read None left' x y r parts h = tt
   told_plays p q read (Some all) None x y r parts h = absurd parts
   told_plays p q read (Some all) (Some later) x y r parts h = record {
@@ -47,6 +47,8 @@ module _ {S R W G : Type 0} (gains : S → S → List G → Type 0) (takes : S �
     fails = λ is w taken here.
         let (written, text, gained) = h.fails is w taken in
         let same = ap records_of parts in
-        subst (Appends x y) (sym (ap ((course w).text true) same ∙ text (subst (course w).holds same here))) gained;
+        let (failed, whole) = text (subst (course w).holds same here) in
+        (ap (course w).failed same ∙ failed, subst (Appends x y) (sym (ap ((course w).text true) same ∙ whole)) gained);
     reason = λ w taken here small can. decided_over (course w) all (Some later) x y r here small can (ends_over (course w) read later all x y r parts (h.ends w taken));
+    stays = λ is w taken. subst (λ (l : List ℕ). takes q false [] (fold step w (records_of l))) (sym parts) (h.stays is w taken);
   }

@@ -96,53 +96,53 @@ module _ (begun piece : List ℕ) (none : Nowhere (Passes (is_byte 10) piece) 0 
 -- ---- the lines so far
 
 -- those before a place, at which a line begins, were played
-pub record PlayedTo {S R W G : Type 0} (gains : S → S → List G → Type 0) (takes : S → Outlook W G) (course : W → Course R) (a b : S) (x y : List ℕ) (piece : List ℕ) (start : ℕ) : Type 0 where
+pub record PlayedTo {S R W G : Type 0} (gains : S → S → List G → Type 0) (takes : S → Outlook W G) (course : W → Course R) (step : W → Record → W) (a b : S) (x y : List ℕ) (piece : List ℕ) (start : ℕ) : Type 0 where
   pub within : start ≤ length piece
   pub written : List ℕ
-  pub goes : Advances gains takes course a (whole_records (take start piece)) b written
+  pub goes : Advances gains takes course step a (whole_records (take start piece)) b written
   pub taken : Grows x y written
   pub rest : last_part [] (take start piece) ≡ []
 
-pub played_none : {S R W G : Type 0} (gains : S → S → List G → Type 0) (takes : S → Outlook W G) (course : W → Course R) → IsHistory gains → (a : S) (x : List ℕ) (piece : List ℕ) → PlayedTo gains takes course a a x x piece 0
-played_none gains takes course history a x piece = record {
+pub played_none : {S R W G : Type 0} (gains : S → S → List G → Type 0) (takes : S → Outlook W G) (course : W → Course R) (step : W → Record → W) → IsHistory gains → (a : S) (x : List ℕ) (piece : List ℕ) → PlayedTo gains takes course step a a x x piece 0
+played_none gains takes course step history a x piece = record {
   within = omega arith;
   written = [];
-  goes = rw (records_after-none []) (advances_none gains takes course history a);
+  goes = rw (records_after-none []) (advances_none gains takes course step history a);
   taken = grows_none x;
   rest = last_part-none [];
 }
 
-module _ {S R W G : Type 0} (gains : S → S → List G → Type 0) (takes : S → Outlook W G) (course : W → Course R) (history : IsHistory gains) (a b : S) (x y : List ℕ) (piece : List ℕ) (start : ℕ) (played : PlayedTo gains takes course a b x y piece start) where
+module _ {S R W G : Type 0} (gains : S → S → List G → Type 0) (takes : S → Outlook W G) (course : W → Course R) (step : W → Record → W) (history : IsHistory gains) (a b : S) (x y : List ℕ) (piece : List ℕ) (start : ℕ) (played : PlayedTo gains takes course step a b x y piece start) where
   module _ (end : ℕ) (feed : Feed piece start end) (rs : List Record) (says : line_records (slice_range piece start (end + 1)) ≡ rs) where
     so_far : whole_records (take (end + 1) piece) ≡ whole_records (take start piece) ++ rs
     so_far = next_records piece start end feed played.rest ∙ ap (λ (l : List Record). whole_records (take start piece) ++ l) says
 
     -- one line more
-    pub played_line : (c : S) (z : List ℕ) → (more : List ℕ) × Advances gains takes course b rs c more × Grows y z more → PlayedTo gains takes course a c x z piece (end + 1)
+    pub played_line : (c : S) (z : List ℕ) → (more : List ℕ) × Advances gains takes course step b rs c more × Grows y z more → PlayedTo gains takes course step a c x z piece (end + 1)
     played_line c z (more, goes, taken) = record {
       within = let high = feed.high in omega arith;
       written = played.written ++ more;
-      goes = rw so_far (advances_then gains takes course history a b c (whole_records (take start piece)) rs played.written more played.goes goes);
+      goes = rw so_far (advances_then gains takes course step history a b c (whole_records (take start piece)) rs played.written more played.goes goes);
       taken = grows_then x y z played.written more played.taken taken;
       rest = next_part piece start end feed played.rest;
     }
 
     -- the next line stops the player
-    pub played_stop : {T U : Type 0} (c : S) (z : List ℕ) (e : Stop R) (q : Result T (Stop R)) (r : Result U (Stop R)) → q ≡ Err e → r ≡ Err e → PlaysTo gains takes course b rs c y z q
-        → PlaysTo gains takes course a (whole_records piece) c x z r
+    pub played_stop : {T U : Type 0} (c : S) (z : List ℕ) (e : Stop R) (q : Result T (Stop R)) (r : Result U (Stop R)) → q ≡ Err e → r ≡ Err e → PlaysTo gains takes course step b rs c y z q
+        → PlaysTo gains takes course step a (whole_records piece) c x z r
     played_stop c z e q r was is h =
         rw (records_after-split [] piece (end + 1), so_far)
-        (stops_in gains takes course a c (whole_records (take start piece) ++ rs) (records_after (last_part [] (take (end + 1) piece)) (drop (end + 1) piece)) x z e q r was is
-        (plays_then gains takes course history a b c (whole_records (take start piece)) rs played.written x y z q played.goes played.taken h))
+        (stops_in gains takes course step a c (whole_records (take start piece) ++ rs) (records_after (last_part [] (take (end + 1) piece)) (drop (end + 1) piece)) x z e q r was is
+        (plays_then gains takes course step history a b c (whole_records (take start piece)) rs played.written x y z q played.goes played.taken h))
 
   -- want of memory
-  pub played_cut : (written : List ℕ) × Cuts gains takes course a (whole_records piece) b written × Grows x y written
+  pub played_cut : (written : List ℕ) × Cuts gains takes course step a (whole_records piece) b written × Grows x y written
   played_cut =
-      (played.written, rw (records_after-split [] piece start) (cuts_with gains takes course a b (whole_records (take start piece)) (records_after (last_part [] (take start piece)) (drop start piece)) played.written played.goes), played.taken)
+      (played.written, rw (records_after-split [] piece start) (cuts_with gains takes course step a b (whole_records (take start piece)) (records_after (last_part [] (take start piece)) (drop start piece)) played.written played.goes), played.taken)
 
   module _ (lacks : Lacks 10 (drop start piece) (length (drop start piece))) where
     -- no line is left
-    pub played_all : (written : List ℕ) × Advances gains takes course a (whole_records piece) b written × Grows x y written
+    pub played_all : (written : List ℕ) × Advances gains takes course step a (whole_records piece) b written × Grows x y written
     played_all =
         let all : whole_records piece ≡ whole_records (take start piece) =
         records_after-split [] piece start

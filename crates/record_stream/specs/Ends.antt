@@ -1,5 +1,5 @@
 -- How the playing of a source ends.
-use Rattle.std.specs.Prelude.{ℕ, ◌≡◌, ◌≢◌, ◌≤◌, ◌<◌, ◌⊎◌, true, false, List, [], ◌++◌, length, take, Option, Some, None}
+use Rattle.std.specs.Prelude.{ℕ, ◌≡◌, ◌≢◌, ◌≤◌, ◌<◌, ◌⊎◌, true, false, List, [], ◌++◌, length, take, fold, Option, Some, None}
 use Rattle.std.specs.Io.KnownBytes.{Appends, Consumes, IsAtEnd}
 use Rattle.record_cutting.specs.Lines.{Record, records_of, whole_records}
 use Rattle.record_stream.specs.Course.{Course, Outlook}
@@ -49,6 +49,10 @@ Unstopped a rs = (a.reason rs ≡ None) × (a.takes_all rs ≡ true)
 abbrev pub StoppedFor : {R : Type 0} → Course R → List Record → R → Type 0
 StoppedFor a rs why = (a.reason rs ≡ Some why) × (a.takes_all rs ≡ true)
 
+-- what the player asked for itself failed in these records
+abbrev pub FailedIn : {R : Type 0} → Course R → List Record → Type 0
+FailedIn a rs = a.failed rs ≡ true
+
 -- no record that stands whole in these bytes stopped the player, and the sink gained the lines of all of them
 abbrev pub WroteWhole : {R : Type 0} → Course R → List ℕ → Option (List ℕ) → Option (List ℕ) → Type 0
 WroteWhole a bytes old new =
@@ -77,13 +81,15 @@ ended_for (Some why) = ended.Stopped why
 abbrev pub CanDecide : {R : Type 0} → Ended R → Type 0
 CanDecide result = (result ≢ ended.Memory) × ((result ≢ ended.ReadFault) × ((result ≢ ended.WriteFault) × (result ≢ ended.Failed)))
 
--- How the playing ended of a player, by what it got for itself: on each way that these answers allow; and where what it
--- asked failed, the text is exactly the one up to there.
-pub record PlayedOver {S R W G : Type 0} (gains : S → S → List G → Type 0) (takes : S → Outlook W G) (course : W → Course R) (p q : S) (all : List ℕ) (left old new : Option (List ℕ)) (result : Ended R) : Type 0 where
+-- How the playing ended of a player, by what it got for itself: on each way that these answers allow. Where what it asked
+-- failed, it failed in these records on the way that fails after these answers, and the text is exactly the one up to
+-- there. Where all was played, the player stands on the way after all records.
+pub record PlayedOver {S R W G : Type 0} (gains : S → S → List G → Type 0) (takes : S → Outlook W G) (course : W → Course R) (step : W → Record → W) (p q : S) (all : List ℕ) (left old new : Option (List ℕ)) (result : Ended R) : Type 0 where
   pub given : List G
   pub gained : gains p q given
   pub ends : (w : W) → takes p false given w → EndsOver (course w) all left old new result
   pub fails : result ≡ ended.Failed → (w : W) → takes p true given w
-      → (course w).holds (records_of all) → Appends old new ((course w).text true (records_of all))
+      → (course w).holds (records_of all) → FailedIn (course w) (records_of all) × Appends old new ((course w).text true (records_of all))
   pub reason : (w : W) → takes p false given w → (course w).holds (records_of all)
       → length all ≤ limit → CanDecide result → result ≡ ended_for ((course w).reason (records_of all))
+  pub stays : result ≡ ended.Done → (w : W) → takes p false given w → takes q false [] (fold step w (records_of all))

@@ -1,9 +1,9 @@
 -- What the layers of the engine say to one another.
-use Rattle.std.specs.Prelude.{ℕ, ◌≡◌, ◌≢◌, ◌≤◌, ◌<◌, true, false, List, ◌++◌, length, take, Option, IfSome, Result, Ok, Err}
+use Rattle.std.specs.Prelude.{ℕ, ◌≡◌, ◌≢◌, ◌≤◌, ◌<◌, true, false, List, [], ◌++◌, length, take, fold, Option, IfSome, Result, Ok, Err, OnOk}
 use Rattle.std.specs.Io.KnownBytes.{Appends, IsAtEnd}
 use Rattle.record_cutting.specs.Lines.{Record, records_of}
 use Rattle.record_stream.specs.Course.{Course, Outlook}
-use Rattle.record_stream.specs.Ends.{CutOff, IsFrontOf, StoppedFor, Unstopped, WroteWhole, limit}
+use Rattle.record_stream.specs.Ends.{CutOff, FailedIn, IsFrontOf, StoppedFor, Unstopped, WroteWhole, limit}
 use Rattle.record_stream.specs.declared.player.Stop.{Stop}
 use Rattle.record_stream.specs.declared.player.Stop.TheVariants as stop
 use Rattle.record_stream.specs.declared.source.Ended.{Ended}
@@ -47,23 +47,26 @@ Finishes a rs written ended.Failed = IsFrontOf written (a.text true rs)
 Finishes a rs written ended.ReadFault = ⊥
 Finishes a rs written ended.Limit = ⊥
 
--- of a player, what it got between two states, which ways it may take, and the course of each
-module _ {S R W G : Type 0} (gains : S → S → List G → Type 0) (takes : S → Outlook W G) (course : W → Course R) where
-  -- the same on each way; and where what the player asked for itself failed, the text is exactly the one up to there
+-- of a player, what it got between two states, which ways it may take, the course of each, and the way that goes on after a record
+module _ {S R W G : Type 0} (gains : S → S → List G → Type 0) (takes : S → Outlook W G) (course : W → Course R) (step : W → Record → W) where
+  -- the same on each way; and where what the player asked for itself failed, on the way that fails, exactly up to there
   pub record EndsFrom (p q : S) (read : List ℕ) (left old new : Option (List ℕ)) (result : Ended R) : Type 0 where
     pub given : List G
     pub gained : gains p q given
     pub ends : (w : W) → takes p false given w → EndsAfter (course w) read left old new result
     pub fails : result ≡ ended.Failed → (w : W) → takes p true given w
         → (written : List ℕ)
-        × IfSome left (λ later. (course w).holds (records_of (read ++ later)) → (course w).text true (records_of (read ++ later)) ≡ written)
+        × IfSome left (λ later. (course w).holds (records_of (read ++ later)) → FailedIn (course w) (records_of (read ++ later)) × ((course w).text true (records_of (read ++ later)) ≡ written))
         × Appends old new written
+    pub stays : result ≡ ended.Done
+        → IfSome left (λ later. (w : W) → takes p false given w → takes q false [] (fold step w (records_of (read ++ later))))
 
   pub record LastFrom {T : Type 0} (p : S) (rs : List Record) (q : S) (lines : List ℕ) (result : Result T (Stop R)) : Type 0 where
     pub given : List G
     pub gained : gains p q given
     pub last : (w : W) → takes p false given w → (course w).holds rs → Last (course w) rs lines result
-    pub fails : result ≡ Err stop.Failed → (w : W) → takes p true given w → (course w).holds rs → (course w).text true rs ≡ lines
+    pub fails : result ≡ Err stop.Failed → (w : W) → takes p true given w → (course w).holds rs → FailedIn (course w) rs × ((course w).text true rs ≡ lines)
+    pub stays : OnOk result ((w : W) → takes p false given w → takes q false [] (fold step w rs))
 
   pub record FinishesFrom (p : S) (rs : List Record) (q : S) (old new : Option (List ℕ)) (result : Ended R) : Type 0 where
     pub given : List G
@@ -71,6 +74,7 @@ module _ {S R W G : Type 0} (gains : S → S → List G → Type 0) (takes : S �
     pub written : List ℕ
     pub wrote : Appends old new written
     pub ends : (w : W) → takes p false given w → (course w).holds rs → Finishes (course w) rs written result
-    pub fails : result ≡ ended.Failed → (w : W) → takes p true given w → (course w).holds rs → (course w).text true rs ≡ written
+    pub fails : result ≡ ended.Failed → (w : W) → takes p true given w → (course w).holds rs → FailedIn (course w) rs × ((course w).text true rs ≡ written)
+    pub stays : result ≡ ended.Done → (w : W) → takes p false given w → takes q false [] (fold step w rs)
     -- nothing is read
     pub reads : (result ≢ ended.ReadFault) × (result ≢ ended.Limit)

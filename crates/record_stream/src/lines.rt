@@ -32,7 +32,7 @@ fn play_row<P: Player>(
 ) -> Result<(), Stop<P::Reason>>
     requires count { P.count player.old < 2 ^ 62 }
     requires live { P.live player.old }
-    ensures plays { PlaysTo P.gains P.takes P.course player.old (fields_of row.now ∷ []) player.new lines.old.items lines.new.items result }
+    ensures plays { PlaysTo P.gains P.takes P.course P.step player.old (fields_of row.now ∷ []) player.new lines.old.items lines.new.items result }
     ensures counted { OnOk result (P.count player.new ≡ P.count player.old + 1) }
     ensures own_cause { HasCauseAt Stop.Failed (P.own_faults player.old) (P.own_faults player.new) result }
     ensures live { OnOk result (P.live player.new) }
@@ -52,7 +52,7 @@ fn read_line<P: Player>(
 ) -> Result<(), Stop<P::Reason>>
     requires count { P.count player.old + length line.now + 1 < 2 ^ 62 }
     requires live { P.live player.old }
-    ensures plays { PlaysTo P.gains P.takes P.course player.old (spec.line_records line.now) player.new lines.old.items lines.new.items result }
+    ensures plays { PlaysTo P.gains P.takes P.course P.step player.old (spec.line_records line.now) player.new lines.old.items lines.new.items result }
     ensures counted { OnOk result (P.count player.new ≤ P.count player.old + length line.now + 1) }
     ensures own_cause { HasCauseAt Stop.Failed (P.own_faults player.old) (P.own_faults player.new) result }
     ensures live { OnOk result (P.live player.new) }
@@ -80,7 +80,7 @@ fn play_cut<P: Player>(
     requires count { P.count player.old < 2 ^ 62 }
     requires live { P.live player.old }
     requires cut { spec.record_of fields.now ≡ plain.cells [] body.now }
-    ensures plays { PlaysTo P.gains P.takes P.course player.old (plain.plain_records body.now) player.new lines.old.items lines.new.items result }
+    ensures plays { PlaysTo P.gains P.takes P.course P.step player.old (plain.plain_records body.now) player.new lines.old.items lines.new.items result }
     ensures counted { OnOk result (P.count player.new ≤ P.count player.old + 1) }
     ensures own_cause { HasCauseAt Stop.Failed (P.own_faults player.old) (P.own_faults player.new) result }
     ensures live { OnOk result (P.live player.new) }
@@ -102,7 +102,7 @@ fn play_line<'p, P: Player>(
 ) -> Result<(), Stop<P::Reason>>
     requires count { P.count player.old + length line.now + 1 < 2 ^ 62 }
     requires live { P.live player.old }
-    ensures plays { PlaysTo P.gains P.takes P.course player.old (spec.line_records line.now) player.new lines.old.items lines.new.items result }
+    ensures plays { PlaysTo P.gains P.takes P.course P.step player.old (spec.line_records line.now) player.new lines.old.items lines.new.items result }
     ensures counted { OnOk result (P.count player.new ≤ P.count player.old + length line.now + 1) }
     ensures own_cause { HasCauseAt Stop.Failed (P.own_faults player.old) (P.own_faults player.new) result }
     ensures live { OnOk result (P.live player.new) }
@@ -124,7 +124,7 @@ pub fn play_alone<P: Player>(
 ) -> Result<(), Stop<P::Reason>>
     requires count { P.count player.old + length line.now + 1 < 2 ^ 62 }
     requires live { P.live player.old }
-    ensures plays { PlaysTo P.gains P.takes P.course player.old (spec.line_records line.now) player.new lines.old.items lines.new.items result }
+    ensures plays { PlaysTo P.gains P.takes P.course P.step player.old (spec.line_records line.now) player.new lines.old.items lines.new.items result }
     ensures counted { OnOk result (P.count player.new ≤ P.count player.old + length line.now + 1) }
     ensures own_cause { HasCauseAt Stop.Failed (P.own_faults player.old) (P.own_faults player.new) result }
     ensures live { OnOk result (P.live player.new) }
@@ -142,7 +142,7 @@ fn play_whole<P: Player>(
 ) -> Result<usize, Stop<P::Reason>>
     requires count { P.count player.old + 2 * length piece.now < 2 ^ 61 }
     requires live { P.live player.old }
-    ensures plays { PlaysTo P.gains P.takes P.course player.old (spec.whole_records piece.now) player.new lines.old.items lines.new.items result }
+    ensures plays { PlaysTo P.gains P.takes P.course P.step player.old (spec.whole_records piece.now) player.new lines.old.items lines.new.items result }
     ensures rest { IfOk result (λ at. drop at piece.now ≡ spec.last_part [] piece.now) }
     ensures within { IfOk result (λ at. at ≤ length piece.now) }
     ensures counted { IfOk result (λ at. P.count player.new ≤ P.count player.old + 2 * at) }
@@ -181,7 +181,7 @@ fn play_piece<P: Player>(
     requires count { P.count player.old + 2 * length piece.now < 2 ^ 61 }
     requires live { P.live player.old }
     requires none { pending.old.items ≡ [] }
-    ensures plays { PlaysTo P.gains P.takes P.course player.old (spec.whole_records piece.now) player.new lines.old.items lines.new.items result }
+    ensures plays { PlaysTo P.gains P.takes P.course P.step player.old (spec.whole_records piece.now) player.new lines.old.items lines.new.items result }
     ensures rest { OnOk result (pending.new.items ≡ spec.last_part [] piece.now) }
     ensures counted { OnOk result (P.count player.new + 2 * length pending.new.items ≤ P.count player.old + 2 * length piece.now) }
     ensures own_cause { HasCauseAt Stop.Failed (P.own_faults player.old) (P.own_faults player.new) result }
@@ -204,7 +204,7 @@ fn end_line<P: Player>(
 ) -> Result<(), Stop<P::Reason>>
     requires count { P.count player.old + length pending.old.items + length end.now + 1 < 2 ^ 62 }
     requires live { P.live player.old }
-    ensures plays { PlaysTo P.gains P.takes P.course player.old (spec.line_records (pending.old.items ++ end.now)) player.new lines.old.items lines.new.items result }
+    ensures plays { PlaysTo P.gains P.takes P.course P.step player.old (spec.line_records (pending.old.items ++ end.now)) player.new lines.old.items lines.new.items result }
     ensures rest { OnOk result (pending.new.items ≡ []) }
     ensures counted { OnOk result (P.count player.new ≤ P.count player.old + length pending.old.items + length end.now + 1) }
     ensures own_cause { HasCauseAt Stop.Failed (P.own_faults player.old) (P.own_faults player.new) result }
@@ -228,7 +228,7 @@ pub fn take_piece<P: Player>(
 ) -> Result<(), Stop<P::Reason>>
     requires count { P.count player.old + 2 * (length pending.old.items + length piece.now) < 2 ^ 61 }
     requires live { P.live player.old }
-    ensures plays { PlaysTo P.gains P.takes P.course player.old (spec.records_after pending.old.items piece.now) player.new lines.old.items lines.new.items result }
+    ensures plays { PlaysTo P.gains P.takes P.course P.step player.old (spec.records_after pending.old.items piece.now) player.new lines.old.items lines.new.items result }
     ensures rest { OnOk result (pending.new.items ≡ spec.last_part pending.old.items piece.now) }
     ensures counted { OnOk result (P.count player.new + 2 * length pending.new.items ≤ P.count player.old + 2 * (length pending.old.items + length piece.now)) }
     ensures own_cause { HasCauseAt Stop.Failed (P.own_faults player.old) (P.own_faults player.new) result }

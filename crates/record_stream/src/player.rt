@@ -2,7 +2,7 @@
 ghost use Rattle.std.specs.Prelude.{◌≡◌, ◌∷◌, ◌+◌, ◌<◌, ◌≤◌, ◌^◌, ℕ, Bool, List, [], true, false, None, OnOk};
 ghost use Rattle.byte_streams.specs.Causes.{HasCauseAt};
 ghost use Rattle.record_stream.specs.Course.{Adds, Closes, Course, IsHistory, Outlook, PlaysTo};
-ghost use Rattle.record_cutting.specs.Lines.{record_of};
+ghost use Rattle.record_cutting.specs.Lines.{Record, record_of};
 ghost use Rattle.record_stream.specs.declared.player.Stop.TheVariants as stop;
 
 use std::alloc::AllocError;
@@ -51,6 +51,9 @@ pub trait Player {
     // What it writes on each, whatever records follow of which its course holds.
     ghost course: { Way → Course Self.Reason };
 
+    // The way that goes on after a record.
+    ghost step: { Way → Record → Way };
+
     // Which of them it may take from here on, by what it is then answered.
     ghost takes: { Self → Outlook Way Given };
 
@@ -72,7 +75,7 @@ pub trait Player {
     fn play(&mut self, fields: &[&[u8]], lines: &mut Vec<u8>) -> Result<(), Stop<Self::Reason>>
         requires live { live self.old }
         requires count { count self.old < 2 ^ 62 }
-        ensures plays { PlaysTo gains takes course self.old (record_of fields.now ∷ []) self.new lines.old.items lines.new.items result }
+        ensures plays { PlaysTo gains takes course step self.old (record_of fields.now ∷ []) self.new lines.old.items lines.new.items result }
         ensures counted { OnOk result (count self.new ≡ count self.old + 1) }
         ensures own_cause { HasCauseAt Stop.Failed (own_faults self.old) (own_faults self.new) result }
         ensures live { OnOk result (live self.new) };
@@ -80,8 +83,9 @@ pub trait Player {
     /// Appends the closing lines, after the last record. After an error some first bytes of them were appended.
     fn close(&mut self, lines: &mut Vec<u8>) -> Result<(), Memory>
         requires live { live self.old }
-        ensures adds { (text : List ℕ) × Closes gains takes course self.old text × Adds text lines.old.items lines.new.items result }
+        ensures adds { (text : List ℕ) × Closes gains takes course step self.old text × Adds text lines.old.items lines.new.items result }
         ensures gained { gains self.old self.new [] }
+        ensures stays { OnOk result ((w : Way) → takes self.old false [] w → takes self.new false [] w) }
         ensures own_cause { own_faults self.old ≤ own_faults self.new };
 
     /// No records and no closing lines: nothing is written.

@@ -54,7 +54,7 @@ fn play_last<P: Player>(
 ) -> Result<(), Stop<P::Reason>>
     requires count { P.count player.old + length rest.now + 1 < 2 ^ 62 }
     requires live { P.live player.old }
-    ensures plays { PlaysTo P.gains P.takes P.course player.old (last_records rest.now) player.new lines.old.items lines.new.items result }
+    ensures plays { PlaysTo P.gains P.takes P.course P.step player.old (last_records rest.now) player.new lines.old.items lines.new.items result }
     ensures own_cause { HasCauseAt Stop.Failed (P.own_faults player.old) (P.own_faults player.new) result }
     ensures live { OnOk result (P.live player.new) }
 {
@@ -74,7 +74,7 @@ fn last_lines<P: Player>(
     requires count { P.count player.old + length rest.now + 1 < 2 ^ 62 }
     requires live { P.live player.old }
     requires none { lines.old.items ≡ [] }
-    ensures last { spec.LastFrom P.gains P.takes P.course player.old (last_records rest.now) player.new lines.new.items result }
+    ensures last { spec.LastFrom P.gains P.takes P.course P.step player.old (last_records rest.now) player.new lines.new.items result }
     ensures own_cause { HasCauseAt Stop.Failed (P.own_faults player.old) (P.own_faults player.new) result }
 {
     play_last(alloc, player, rest, lines)?;
@@ -93,7 +93,7 @@ fn finish<P: Player, K: Sink>(
     requires count { P.count player.old + length rest.now + 1 < 2 ^ 62 }
     requires live { P.live player.old }
     requires none { lines.old.items ≡ [] }
-    ensures ends { spec.FinishesFrom P.gains P.takes P.course player.old (last_records rest.now) player.new (K.taken sink.old) (K.taken sink.new) result }
+    ensures ends { spec.FinishesFrom P.gains P.takes P.course P.step player.old (last_records rest.now) player.new (K.taken sink.old) (K.taken sink.new) result }
     ensures gathered { result ≢ Ended.WriteFault → Appends (K.taken sink.old) (K.taken sink.new) lines.new.items }
     ensures own_later { P.own_faults player.old ≤ P.own_faults player.new }
     ensures own_cause { result ≡ Ended.Failed → Rose (P.own_faults player.old) (P.own_faults player.new) }
@@ -120,7 +120,7 @@ fn play_pieces<P: Player, S: Source, K: Sink>(
     requires count { P.count player.old ≡ 0 }
     requires live { P.live player.old }
     ensures ends { (read : List ℕ) × Consumes (S.left source.old) (S.left source.new) read
-        × spec.EndsFrom P.gains P.takes P.course player.old player.new read (S.left source.new) (K.taken sink.old) (K.taken sink.new) result }
+        × spec.EndsFrom P.gains P.takes P.course P.step player.old player.new read (S.left source.new) (K.taken sink.old) (K.taken sink.new) result }
     ensures own_later { P.own_faults player.old ≤ P.own_faults player.new }
     ensures own_cause { result ≡ Ended.Failed → Rose (P.own_faults player.old) (P.own_faults player.new) }
     ensures read_later { S.faults source.old ≤ S.faults source.new }
@@ -173,7 +173,7 @@ pub fn play_source<P: Player, S: Source, K: Sink>(
 
     // How it ended over a source that tells.
     ensures ends { IfSome (S.left source.old) (λ all.
-        PlayedOver P.gains P.takes P.course player.old player.new all (S.left source.new) (K.taken sink.old) (K.taken sink.new) result) }
+        PlayedOver P.gains P.takes P.course P.step player.old player.new all (S.left source.new) (K.taken sink.old) (K.taken sink.new) result) }
 
     // A fault has its cause, and no count falls.
     ensures read_cause { result ≡ Ended.ReadFault → Rose (S.faults source.old) (S.faults source.new) }

@@ -1,5 +1,5 @@
 -- One record, and a record that ends the text.
-use Rattle.std.proofs.Common.{refl, sym, ◌∙◌, ◌≡◌, ◌+◌, ℕ, List, [], ◌∷◌, ◌++◌, true, false, Result, Ok, Err, OnErr, OnOk, append-nil, append_assoc}
+use Rattle.std.proofs.Common.{refl, sym, ap, ◌∙◌, ◌≡◌, ◌+◌, ℕ, List, [], ◌∷◌, ◌++◌, true, false, Result, Ok, Err, OnErr, OnOk, append-nil, append_assoc}
 use Rattle.std.specs.Prelude.{nat_le}
 use Rattle.record_stream.specs.Alone.{closes_alone, none_asked, one_way}
 use Rattle.record_stream.specs.Course.{Adds, Closes, Goes, Stops}
@@ -10,11 +10,11 @@ use Rattle.schedule_model.specs.Quantities.{Events}
 use Rattle.record_cutting.specs.Lines.{Record}
 use Rattle.schedule_model.specs.Lines.{line_text, stopped_at_limit, stopped_at_record}
 use Rattle.schedule_model.specs.Reading.{RecordFault}
-use Rattle.schedule_model.specs.Written.{AtLimit, AtRecord, Off, On, Stop, Written, all_written, onto, stopped_text, text_with}
+use Rattle.schedule_model.specs.Written.{AtLimit, AtRecord, Off, On, Stop, Written, all_written, last_of, onto, stopped_text, text_with}
 use Rattle.schedule_text.specs.declared.fault.Stopped.TheVariants as stopped
 use Rattle.values.specs.declared.limits.TheConstants.{MAX_EVENTS}
 use Rattle.table_model.specs.TableText.{Applied, TableRecord, asks, row_line, rows_line, table_played, table_record}
-use Rattle.table_command.specs.Course.{after_ask, cause_in, cause_of, closing, course_from, outcome, outcome_of}
+use Rattle.table_command.specs.Course.{after_ask, after_record, cause_in, cause_of, closing, course_from, outcome, outcome_of}
 
 asks_of : (s : Applied) (r : TableRecord) (read : Result Request RequestFault)
     → asks s r.client r.number read ≡ On (row_line s (outcome_of s.table r read).1) (record { records = s.records + 1; table = (outcome_of s.table r read).0 })
@@ -37,6 +37,7 @@ goes_on s t r text is = record {
   holds = λ more here. tt;
   text = λ closed more here. rw is (text_onto (closing closed) text (all_written table_played t more));
   reason = λ more here. rw is (cause_onto text (all_written table_played t more));
+  failed = λ more here. refl;
   takes_all = λ more here. refl;
 }
 
@@ -55,6 +56,9 @@ pub goes_ask : (s t : Applied) (r : Record) (ask : TableRecord) → table_record
     → Goes (course_from s) (r ∷ []) (course_from t) (row_line s (outcome s.table ask).1)
 goes_ask s t r ask is room to = rw to (goes_on s (after_ask s ask) r (row_line s (outcome s.table ask).1) (played_ask s r ask is room))
 
+pub after_asking : (s t : Applied) (r : Record) (ask : TableRecord) → table_record r ≡ Ok ask → nat_le MAX_EVENTS s.records ≡ false → t ≡ after_ask s ask → t ≡ after_record s r
+after_asking s t r ask is room to = to ∙ ap (λ (w : Written Applied). last_of w) (sym (played_ask s r ask is room))
+
 -- one that means nothing
 pub stops_record : (s : Applied) (r : Record) (fault : RecordFault) → table_record r ≡ Err fault
     → Stops (course_from s) (r ∷ []) stopped.AtRecord (line_text (stopped_at_record (s.records + 1) fault))
@@ -68,7 +72,7 @@ stops_limit s r ask is full = stops_at s s r (AtLimit Events) (rw (is, full) ref
 -- ---- the closing line
 
 pub closes_rows : {T E : Type 0} (s : Applied) (old new : List ℕ) (r : Result T E) → OnOk r (new ≡ old ++ rows_line s) → OnErr r (new ≡ old)
-    → (text : List ℕ) × Closes none_asked one_way course_from s text × Adds text old new r
+    → (text : List ℕ) × Closes none_asked one_way course_from after_record s text × Adds text old new r
 unfolding all_written
-closes_rows s old new (Ok done) line kept = (rows_line s, closes_alone course_from s, line)
-closes_rows s old new (Err e) line kept = (rows_line s, closes_alone course_from s, ([], rows_line s, refl, kept ∙ sym (append-nil old)))
+closes_rows s old new (Ok done) line kept = (rows_line s, closes_alone course_from after_record s, line)
+closes_rows s old new (Err e) line kept = (rows_line s, closes_alone course_from after_record s, ([], rows_line s, refl, kept ∙ sym (append-nil old)))

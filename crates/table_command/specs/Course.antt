@@ -1,5 +1,6 @@
 -- What the player of a table writes, for whatever records follow.
 use Rattle.std.specs.Prelude.{ℕ, ◌+◌, ⊤, List, Bool, true, false, Option, Some, None, Result, Ok, Err}
+use Rattle.record_cutting.specs.Lines.{Record}
 use Rattle.record_stream.specs.Course.{Course}
 use Rattle.record_rules.specs.Table.{RecordTable}
 use Rattle.record_rules.specs.Rules.{apply}
@@ -7,7 +8,7 @@ use Rattle.values.specs.declared.message.Request.{Request}
 use Rattle.client_msgs.specs.Reading.{request_of}
 use Rattle.client_msgs.specs.declared.fault.RequestFault.{RequestFault}
 use Rattle.schedule_model.specs.Lines.{Line, reply_fields}
-use Rattle.schedule_model.specs.Written.{AtLimit, Stop, Written, On, Off, all_written, no_closing, text_with}
+use Rattle.schedule_model.specs.Written.{AtLimit, Stop, Written, On, Off, all_written, last_of, no_closing, text_with}
 use Rattle.schedule_text.specs.declared.fault.Stopped.{Stopped}
 use Rattle.schedule_text.specs.declared.fault.Stopped.TheVariants as stopped
 use Rattle.table_model.specs.TableText.{Applied, TableRecord, fault_fields, rows_line, table_played}
@@ -44,5 +45,10 @@ course_from s = record {
   holds = λ rs. ⊤;
   text = λ closed rs. text_with (closing closed) (all_written table_played s rs);
   reason = λ rs. cause_in (all_written table_played s rs);
+  failed = λ rs. false;
   takes_all = λ rs. true;
 }
+
+-- where playing stands after a record
+abbrev pub after_record : Applied → Record → Applied
+after_record s r = last_of (table_played s r)

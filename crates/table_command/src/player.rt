@@ -9,7 +9,7 @@ ghost use Rattle.schedule_model.specs.Quantities.{Events};
 ghost use Rattle.schedule_text.specs.Joined.{after_commas};
 ghost use Rattle.schedule_text.specs.Read.{Reads};
 ghost use Rattle.table_model.specs.TableText.{Applied, row_line, rows_line, table_record};
-ghost use Rattle.table_command.specs.Course.{after_ask, course_from, outcome};
+ghost use Rattle.table_command.specs.Course.{after_ask, after_record, course_from, outcome};
 ghost use Rattle.table_command.specs.Openings.{nothing_from, spent_from, unstopped_from};
 
 use crate::line::push_fault;
@@ -162,6 +162,8 @@ impl Player for TablePlayer {
     ghost Way = { Applied };
 
     ghost course = { course_from };
+
+    ghost step = { after_record };
 
     ghost takes = { λ p. one_way p };
 

@@ -8,4 +8,4 @@ returns-in-Ok-Open-clause-plays g c =
     rw (plain_line c.args.line.now c.body_of-body.result.now cuts.0 c.body_of-body.ensures) c.play_cut.ensures.plays
 
 pub returns-in-Err-clause-plays : goal.returns-in-Err-clause-plays
-returns-in-Err-clause-plays g c = nothing_plays _ _ _ g.met.P.Player.history _ _ _
+returns-in-Err-clause-plays g c = nothing_plays _ _ _ _ g.met.P.Player.history _ _ _

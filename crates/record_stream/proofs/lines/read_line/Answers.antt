@@ -23,7 +23,7 @@ loop-row-init g c =
       ready = inr (inr (rw (f, e) at fr.has_headers, fr.headers));
       turns = left;
       config = rw (f, e) at fr.config ∙ c.new.ensures.config;
-      so_far = (strip_bom c.args.line.now, [], fr.source, (sym fr.state, refl), omega arith, [], advances_none _ _ _ g.met.P.Player.history _, grows_none _);
+      so_far = (strip_bom c.args.line.now, [], fr.source, (sym fr.state, refl), omega arith, [], advances_none _ _ _ _ g.met.P.Player.history _, grows_none _);
       live = c.requires.live;
       own_later = omega arith;
     })
@@ -45,9 +45,9 @@ returns-in_err-play_row g c =
     let s = rw (c.in-Some.is, c.in-Ok.is) at ((c.next.ensures.steps inv.turns inv.trim).0 inv.ready) in
     let m = rows-more (λ (s : Bor (List ℕ)). Some s.now) c.loop-row.row-iterator.rdr c.next.new.self.rdr (fields_of c.in-Ok.row) default_config st.StartRecord (strip_bom c.args.line.now) left rows inv.config source reached s.0 in
     let (rest, front) = records-front c.args.line.now _ m.0 (rows ++ (fields_of c.in-Ok.row ∷ [])) m.2 in
-    let all = plays_then _ _ _ g.met.P.Player.history _ _ _ rows (fields_of c.in-Ok.row ∷ []) written _ _ _ _ goes taken c.play_row.ensures.plays in
+    let all = plays_then _ _ _ _ g.met.P.Player.history _ _ _ rows (fields_of c.in-Ok.row ∷ []) written _ _ _ _ goes taken c.play_row.ensures.plays in
     record {
-      plays = rw front (stops_in _ _ _ _ _ (rows ++ (fields_of c.in-Ok.row ∷ [])) rest _ _ _ _ _ c.in_err-play_row.was (p.1 ∙ ap Err p.2) all);
+      plays = rw front (stops_in _ _ _ _ _ _ (rows ++ (fields_of c.in-Ok.row ∷ [])) rest _ _ _ _ _ c.in_err-play_row.was (p.1 ∙ ap Err p.2) all);
       counted = rw p.1 tt;
       own_cause = cause_passed _ _ _ _ _ _ _ inv.own_later c.in_err-play_row.was (p.1 ∙ ap Err p.2) c.play_row.ensures.own_cause;
       live = rw p.1 tt;
@@ -72,7 +72,7 @@ loop-row-preserved g c =
         m.2,
         omega (arith, count, c.in_ok-play_row.ensures.counted, length-append rows (fields_of c.in-Ok.row ∷ [])),
         written ++ more,
-        advances_then _ _ _ g.met.P.Player.history _ _ _ rows (fields_of c.in-Ok.row ∷ []) written more goes goes_more,
+        advances_then _ _ _ _ g.met.P.Player.history _ _ _ rows (fields_of c.in-Ok.row ∷ []) written more goes goes_more,
         grows_then _ _ _ written more taken taken_more,
       );
       live = c.in_ok-play_row.ensures.live;
@@ -84,7 +84,7 @@ returns-in_default g c =
     let (left, rows, source, reached, count, written, goes, taken) = c.loop-row.invariant.so_far in
     let (rest, front) = records-front c.args.line.now _ left rows reached in
     record {
-      plays = (written, rw front (cuts_with _ _ _ _ _ rows rest written goes), taken);
+      plays = (written, rw front (cuts_with _ _ _ _ _ _ rows rest written goes), taken);
       counted = tt;
       own_cause = record { later = c.loop-row.invariant.own_later; failed = λ e. cc e };
       live = tt;

@@ -16,7 +16,7 @@ invariant-loop-row g l = record {
   so_far : (left : List ℕ) × (rows : List Record) × (source_of (λ s. Some s.now) l.row-iterator.rdr ≡ Some left)
       × Reached default_config st.StartRecord (strip_bom l.fn.line) rows l.row-iterator.rdr.state left
       × (g.P.Player.count l.player ≡ g.P.Player.count l.initial.player + length rows)
-      × (written : List ℕ) × Advances g.P.Player.gains g.P.Player.takes g.P.Player.course l.initial.player rows l.player written
+      × (written : List ℕ) × Advances g.P.Player.gains g.P.Player.takes g.P.Player.course g.P.Player.step l.initial.player rows l.player written
       × Grows l.initial.lines.items l.lines.items written;
   live : g.P.Player.live l.player;
   own_later : g.P.Player.own_faults l.initial.player ≤ g.P.Player.own_faults l.player;

@@ -8,11 +8,11 @@ use Rattle.record_stream.proofs.Pieces.{piece_all, piece_limit, piece_parts, pie
 use Rattle.record_stream.proofs.source.play_pieces.Goals as goal
 
 pub returns-in_default-clause-ends : goal.returns-in_default-clause-ends
-returns-in_default-clause-ends g c = ([], Consumes-nil _, from_before _ _ _ g.met.P.Player.history g.met.P.Player.nothing _ _ _)
+returns-in_default-clause-ends g c = ([], Consumes-nil _, from_before _ _ _ _ g.met.P.Player.history g.met.P.Player.nothing _ _ _)
 
 pub loop-count-init : goal.loop-count-init
 loop-count-init g c = record {
-  so_far = ([], Consumes-nil _, so_none _ _ _ g.met.P.Player.history _ _ _ c.new-pending.ensures.items, omega arith, omega (arith, c.requires.count, c.new-pending.ensures.len));
+  so_far = ([], Consumes-nil _, so_none _ _ _ _ g.met.P.Player.history _ _ _ c.new-pending.ensures.items, omega arith, omega (arith, c.requires.count, c.new-pending.ensures.len));
   live = c.requires.live;
   size = c.in-Ok.ensures.len;
   own = omega arith;
@@ -23,7 +23,7 @@ loop-count-init g c = record {
 pub returns-in_default-read-clause-ends : goal.returns-in_default-read-clause-ends
 returns-in_default-read-clause-ends g c =
     let (read, consumed, so_far, room, count) = c.loop-count.invariant.so_far in
-    (read, Consumes-kept _ _ _ read consumed c.in_default-read.ensures.bytes, from_fault _ _ _ g.met.P.Player.history g.met.P.Player.nothing g.met.P.Player.unstopped g.met.P.Player.spent _ _ read _ _ _ _ so_far)
+    (read, Consumes-kept _ _ _ read consumed c.in_default-read.ensures.bytes, from_fault _ _ _ _ g.met.P.Player.history g.met.P.Player.nothing g.met.P.Player.unstopped g.met.P.Player.spent _ _ read _ _ _ _ so_far)
 
 pub returns-in_default-read-clause-read_cause : goal.returns-in_default-read-clause-read_cause
 returns-in_default-read-clause-read_cause g c e = Rose-after _ _ _ c.loop-count.invariant.reads c.in_default-read.ensures.cause.failed
@@ -41,7 +41,7 @@ returns-then-count-eq0-clause-ends g c =
     let none = rw c.if-count-eq0.true at bytes.0 in (
       read,
       rw append-nil at (Consumes-trans _ _ _ read [] consumed none),
-      from_at_end _ _ _ g.met.P.Player.history g.met.P.Player.nothing _ _ _ read _ _ _ _ _ c.finish.result end (omega (arith, room)) so_far (rw c.as_slice.ensures.value at c.finish.ensures.ends),
+      from_at_end _ _ _ _ g.met.P.Player.history g.met.P.Player.nothing _ _ _ read _ _ _ _ _ c.finish.result end (omega (arith, room)) so_far (rw c.as_slice.ensures.value at c.finish.ensures.ends),
     )
 
 pub returns-then-count-eq0-clause-write_cause : goal.returns-then-count-eq0-clause-write_cause
@@ -65,7 +65,7 @@ returns-in_default-write_all-clause-ends g c =
     rw parts (omega (arith, length-take n c.read.new.buf, c.loop-count.invariant.size, c.as_mut_slice.ensures.len, c.read.auto.buf)) in (
       (read ++ piece) ++ extra,
       rw (append_assoc read piece extra, parts) (Consumes-trans _ _ _ read (take n c.read.new.buf) consumed c.in-Ok-read.ensures.bytes.0),
-      from_unwritten _ _ _ g.met.P.Player.history g.met.P.Player.nothing _ _ _ read piece extra _ _ _ _ _ _ c.take_piece-played.result short
+      from_unwritten _ _ _ _ g.met.P.Player.history g.met.P.Player.nothing _ _ _ read piece extra _ _ _ _ _ _ c.take_piece-played.result short
           (piece_limit read c.read.new.buf n c.loop-count.room room c.in-Ok-read.ensures.bound.0) so_far
           (rw (c.min.ensures, buf, c.clear.ensures.items) at c.take_piece-played.ensures.plays) (rw c.as_slice-in-loop-count.ensures.value at c.in_default-write_all.ensures.err),
     )
@@ -82,7 +82,7 @@ returns-in-Err-clause-ends g c =
     rw parts (omega (arith, length-take n c.read.new.buf, c.loop-count.invariant.size, c.as_mut_slice.ensures.len, c.read.auto.buf)) in (
       (read ++ piece) ++ extra,
       rw (append_assoc read piece extra, parts) (Consumes-trans _ _ _ read (take n c.read.new.buf) consumed c.in-Ok-read.ensures.bytes.0),
-      from_in_piece _ _ _ g.met.P.Player.history g.met.P.Player.nothing _ _ _ read piece extra _ _ _ _ _ _ c.in-Err.stop c.take_piece-played.result _ short
+      from_in_piece _ _ _ _ g.met.P.Player.history g.met.P.Player.nothing _ _ _ read piece extra _ _ _ _ _ _ c.in-Err.stop c.take_piece-played.result _ short
           (piece_limit read c.read.new.buf n c.loop-count.room room c.in-Ok-read.ensures.bound.0) so_far c.in-Err.is c.ended_by.ensures
           (rw (c.min.ensures, buf, c.clear.ensures.items) at c.take_piece-played.ensures.plays) (rw c.as_slice-in-loop-count.ensures.value at c.in-Ok-write_all.ensures.ok),
     )
@@ -102,11 +102,11 @@ returns-then-count-room-clause-ends g c =
     let fed = rw (c.min.ensures, buf, c.clear.ensures.items) at c.in_default-played.ensures in
     let (more, goes, lines) = fed.plays in
     let taken = rw (c.as_slice-in-loop-count.ensures.value, lines) at c.in-Ok-write_all.ensures.ok in
-    let next = so_next _ _ _ g.met.P.Player.history _ _ _ read piece _ _ more _ _ _ so_far goes taken fed.rest in
+    let next = so_next _ _ _ _ g.met.P.Player.history _ _ _ read piece _ _ more _ _ _ so_far goes taken fed.rest in
     let passes = piece_passes read c.read.new.buf n c.loop-count.room room c.if-count-room.true c.in-Ok-read.ensures.bound.0 in (
       read ++ take n c.read.new.buf,
       Consumes-trans _ _ _ read (take n c.read.new.buf) consumed c.in-Ok-read.ensures.bytes.0,
-      from_limit _ _ _ g.met.P.Player.history g.met.P.Player.nothing g.met.P.Player.unstopped g.met.P.Player.spent _ _ (read ++ piece) _ _ _ _ _ passes.0 passes.1 next,
+      from_limit _ _ _ _ g.met.P.Player.history g.met.P.Player.nothing g.met.P.Player.unstopped g.met.P.Player.spent _ _ (read ++ piece) _ _ _ _ _ passes.0 passes.1 next,
     )
 
 pub loop-count-preserved : goal.loop-count-preserved
@@ -124,7 +124,7 @@ loop-count-preserved g c =
       so_far = (
         read ++ piece,
         Consumes-trans _ _ _ read piece consumed c.in-Ok-read.ensures.bytes.0,
-        so_next _ _ _ g.met.P.Player.history _ _ _ read piece _ _ more _ _ _ so_far goes taken fed.rest,
+        so_next _ _ _ _ g.met.P.Player.history _ _ _ read piece _ _ more _ _ _ so_far goes taken fed.rest,
         omega (arith, room, size, taken_size, c.if-count-room.false),
         omega (arith, count, size, fed.counted),
       );
