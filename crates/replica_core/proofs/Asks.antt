@@ -29,7 +29,7 @@ use Rattle.replica_core.specs.declared.role.Role.TheVariants as kept
 use Rattle.replica_core.specs.declared.role.Leading.{Leading}
 use Rattle.replica_core.specs.declared.holder.Holder.{Holder}
 use Rattle.replica_core.specs.declared.send.Appends.TheVariants.{Nobody, Everyone}
-use Rattle.replica_core.specs.Asking.{fault_answered, read_as, open_in, refusal_by, refusal_at, refusal_of}
+use Rattle.replica_core.specs.Asking.{fault_answered, read_as, written, open_in, refusal_by, refusal_at, refusal_of}
 use Rattle.replica_core.specs.Calling.{Reaches, Does}
 use Rattle.replica_core.specs.Keeping.{leads_now, IsSound}
 use Rattle.replica_core.specs.Standing.{kept_ticket, HoldsFor}
@@ -42,14 +42,18 @@ use Rattle.replica_core.proofs.Wins.{pushed-stands, everyone-does}
 
 -- ---- how the bytes are read
 
--- they are the request that was found
-pub found-request : (b b' : Batch) (client : ClientId) (number : ℕ) (r : Result Request RequestFault) (request : Request)
-    → (Some request, b') ≡ read_as b client number r → (r ≡ Ok request) × (b' ≡ b)
-found-request b b' client number (Ok other) request is =
-    let same : Some request ≡ Some other = ap (λ (x : Option Request × Batch). x.0) is in
-    (let e : request ≡ other = cc in ap Ok (sym e), ap (λ (x : Option Request × Batch). x.1) is)
-found-request b b' client number (Err fault) request is =
-    absurd (let same : Some request ≡ None = ap (λ (x : Option Request × Batch). x.0) is in cc)
+-- there is none
+pub no-bytes : (b b' : Batch) (client : ClientId) (number : ℕ) (r : Result Request RequestFault)
+    → None ≡ written (read_as b client number r).0 → b' ≡ (read_as b client number r).1 → (None, b') ≡ read_as b client number r
+no-bytes b b' client number (Ok request) none batch = absurd cc
+no-bytes b b' client number (Err fault) none batch = ap (λ (x : Batch). let o : Option Request = None in (o, x)) batch
+
+-- they are those of the request that was found
+pub written-request : (b b' : Batch) (client : ClientId) (number : ℕ) (r : Result Request RequestFault) (bytes : List ℕ)
+    → Some bytes ≡ written (read_as b client number r).0 → b' ≡ (read_as b client number r).1
+    → (request : Request) × ((r ≡ Ok request) × ((b' ≡ b) × (bytes ≡ canonical_request request)))
+written-request b b' client number (Ok request) bytes is batch = (request, (refl, (batch, let e : bytes ≡ canonical_request request = cc in e)))
+written-request b b' client number (Err fault) bytes is batch = absurd cc
 
 module _ (logs : LogsAreTheModels) (h : Holder) (b : Batch) (s : model.Replica) (st : HoldsFor h s) (empty : b ≡ empty_batch) (client : ClientId) (number : ℕ) where
   -- bytes that are no request are answered as the model's

@@ -136,9 +136,8 @@ read_as-in : (b : Batch) (client : ClientId) (number : ℕ) (r : Result Request 
 read_as-in b client number (Ok request) h = h
 read_as-in b client number (Err fault) h = fault-in b client number fault h
 
-pub read-in : (b b' : Batch) (client : ClientId) (number : ℕ) (r : Result Request RequestFault) (found : Option Request) → (found, b') ≡ read_as b client number r
-    → IsStepBatch b → IsStepBatch b'
-read-in b b' client number r found is h = subst IsStepBatch (sym (ap (λ (x : Option Request × Batch). x.1) is)) (read_as-in b client number r h)
+pub read-in : (b b' : Batch) (client : ClientId) (number : ℕ) (r : Result Request RequestFault) → b' ≡ (read_as b client number r).1 → IsStepBatch b → IsStepBatch b'
+read-in b b' client number r is h = subst IsStepBatch (sym is) (read_as-in b client number r h)
 
 -- why it is not taken
 pub refusal-in : (h : Holder) (answer : Answer) → IsHolderInRange h → refusal_of h ≡ Some answer → IsAnswerInRange answer

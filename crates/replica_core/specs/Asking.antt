@@ -1,11 +1,12 @@
 -- How an ask is read.
-use Rattle.std.specs.Prelude.{ℕ, ◌-◌, Bool, true, false, cond, ◌||◌, ◌==◌, nat_le, Option, Some, None, Result, Ok, Err, [], ◌∷◌, ◌++◌}
+use Rattle.std.specs.Prelude.{ℕ, ◌-◌, List, Bool, true, false, cond, ◌||◌, ◌==◌, nat_le, Option, Some, None, Result, Ok, Err, [], ◌∷◌, ◌++◌}
 use Rattle.values.specs.declared.batch.Batch.{Batch}
 use Rattle.values.specs.declared.ids.ClientId.{ClientId}
 use Rattle.values.specs.declared.message.Answer.{Answer}
 use Rattle.values.specs.declared.message.Answer.TheVariants.{NotLeader, Busy, Malformed, Invalid, Halted}
 use Rattle.values.specs.declared.message.Part.TheVariants.{Nothing}
 use Rattle.values.specs.declared.message.Request.{Request}
+use Rattle.client_msgs.specs.Canonical.{canonical_request}
 use Rattle.client_msgs.specs.declared.fault.RequestFault.{RequestFault}
 use Rattle.client_msgs.specs.declared.fault.RequestFault.TheVariants as faults
 use Rattle.values.specs.declared.entry.Hash.{Hash}
@@ -31,6 +32,11 @@ fault_answered b client number (faults.Size part size) = answered b client numbe
 abbrev pub read_as : Batch → ClientId → ℕ → Result Request RequestFault → Option Request × Batch
 read_as b client number (Ok request) = (Some request, b)
 read_as b client number (Err fault) = (None, fault_answered b client number fault)
+
+-- the canonical bytes of a request that was found
+abbrev pub written : Option Request → Option (List ℕ)
+written (Some request) = Some (canonical_request request)
+written None = None
 
 -- the entries above the committed index
 abbrev pub open_in : Window → ℕ

@@ -1,8 +1,9 @@
 //! Clients' requests, and their answers in their order.
-ghost use Rattle.std.specs.Prelude.{◌≡◌, ◌<◌, ◌++◌, ◌∷◌, [], List, OnOk, IfOk, IfSome};
+ghost use Rattle.std.specs.Prelude.{◌≡◌, ◌<◌, ◌++◌, ◌∷◌, [], true, List, OnOk, IfOk, IfSome};
 ghost use Rattle.values.specs.declared.limits.TheConstants.{TOP};
 ghost use Rattle.values.specs.Sizes.{IsValid};
 ghost use Rattle.client_msgs.specs.Reading.{request_of};
+ghost use Rattle.client_msgs.specs.Strict.{is_canonical};
 ghost use Rattle.replica_model.specs.Replica as model;
 ghost use Rattle.replica_model.specs.Call.{empty_batch};
 ghost use Rattle.replica_model.specs.Clients.{client_request, offset_of};
@@ -10,7 +11,7 @@ ghost use Rattle.replica_model.specs.Linked.{sha_link};
 ghost use Rattle.replica_log.specs.Window.{Fits, last_index, pushed};
 ghost use Rattle.replica_log.specs.Models.{OfEach, StandsFor as LogStandsFor};
 ghost use Rattle.replica_core.specs.InRange.{ActsInRange};
-ghost use Rattle.replica_core.specs.Asking.{read_as, refusal_of};
+ghost use Rattle.replica_core.specs.Asking.{read_as, written, refusal_of};
 ghost use Rattle.replica_core.specs.Keeping.{IsSound};
 ghost use Rattle.replica_core.specs.Calling.{Follows};
 
@@ -18,11 +19,13 @@ use crate::holder::{Holder, logs_are_the_models};
 use crate::role::Role;
 use crate::send::Appends;
 use crate::tickets::Ticket;
-use client_msgs::{RequestFault, read_request, requests_are_read_again, write_request};
+use client_msgs::{
+    RequestFault, is_canonical_request, read_request, requests_are_read_again, write_request,
+};
 use proto_wire::WireFault;
 use replica_model::{MAX_OPEN, TOP};
 use std::alloc::Global;
-use values::{Answer, Batch, Body, ClientId, LogEntry, Memory, Part, Request};
+use values::{Answer, Batch, Body, Bytes, ClientId, LogEntry, Memory, Part, Request};
 
 /// A client's numbered request, as its bytes.
 #[derive(Clone, Copy, Debug)]
@@ -52,6 +55,24 @@ pub(crate) fn read_ask(
     Ok(None)
 }
 
+/// The canonical bytes of an ask's request. Where its bytes are none, the client is answered why. Nearly all bytes are
+/// canonical as they come, and those are kept without being read.
+fn canonical_ask(alloc: Global, ask: Ask<'_>, batch: &mut Batch) -> Result<Option<Bytes>, Memory>
+    ensures bytes { IfOk result (λ bytes. bytes ≡ written (read_as batch.old ask.entry.client ask.entry.number (request_of ask.entry.request.now)).0) }
+    ensures batch { OnOk result (batch.new ≡ (read_as batch.old ask.entry.client ask.entry.number (request_of ask.entry.request.now)).1) }
+    ensures canonical { IfOk result (λ bytes. IfSome bytes (λ xs. is_canonical xs ≡ true)) }
+{
+    // that what is written is canonical rests on this law
+    requests_are_read_again();
+    if is_canonical_request(ask.request) {
+        return Ok(Some(Bytes::from_slice(alloc, ask.request)?));
+    }
+    match read_ask(alloc, ask, batch)? {
+        Some(request) => Ok(Some(write_request(alloc, &request)?)),
+        None => Ok(None),
+    }
+}
+
 /// The offset of a fault in the wire format.
 fn offset_of(fault: &WireFault) -> u64
     ensures { result ≡ offset_of fault.now }
@@ -75,9 +96,7 @@ impl Holder {
         ensures in_range { ActsInRange self.old batch.old result self.new batch.new }
     {
         logs_are_the_models();
-        // that an entry has the canonical bytes rests on this law
-        requests_are_read_again();
-        let Some(request) = read_ask(self.alloc, ask, batch)? else {
+        let Some(request) = canonical_ask(self.alloc, ask, batch)? else {
             return Ok(Appends::Nobody);
         };
         if let Some(refusal) = self.refusal() {
@@ -92,7 +111,7 @@ impl Holder {
         self.push(Body::Ask {
             client: ask.client,
             number: ask.number,
-            request: write_request(self.alloc, &request)?,
+            request,
         })?;
         self.tickets.push(ticket)?;
         self.raise(batch)?;

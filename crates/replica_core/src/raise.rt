@@ -38,12 +38,13 @@ impl Holder {
             return Ok(());
         };
         let last = self.log.last().index;
-        let marks = leading.marks(self.alloc, Mark::Accepted, self.me, last)?;
+        let mut marks = Vec::with_capacity(self.alloc, leading.progress.as_slice().len() + 1)?;
+        leading.put_marks(&mut marks, Mark::Accepted, self.me, last)?;
         raise_promise(&mut self.log, self.ballot.term, marks.as_slice());
         let promised = self.log.promised();
-        let promises = leading.marks(self.alloc, Mark::Promised, self.me, promised)?;
+        leading.put_marks(&mut marks, Mark::Promised, self.me, promised)?;
         let had = self.log.committed();
-        raise_commit(&mut self.log, promises.as_slice());
+        raise_commit(&mut self.log, marks.as_slice());
         self.apply_committed(had, batch)
     }
 

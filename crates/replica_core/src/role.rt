@@ -69,23 +69,23 @@ impl Leading {
         self.progress.get(id).copied().unwrap_or(UNKNOWN)
     }
 
-    /// The marks of the peers, and first the leader's own.
-    pub fn marks(
+    /// Makes a list that of the marks of the peers, and first the leader's own. So one list serves both marks.
+    pub fn put_marks(
         &self,
-        alloc: Global,
+        marks: &mut Vec<(u32, u64)>,
         mark: Mark,
         me: ReplicaId,
         own: u64,
-    ) -> Result<Vec<(u32, u64)>, Memory>
-        ensures { IfOk result (λ marks. marks.items ≡ marks_by mark me own self.now.progress) }
+    ) -> Result<(), Memory>
+        ensures { OnOk result (marks.new.items ≡ marks_by mark me own self.now.progress) }
     {
-        let peers = self.progress.as_slice();
-        let mut marks = Vec::with_capacity(alloc, peers.len() + 1)?;
+        marks.clear();
         marks.push((me, own))?;
+        let peers = self.progress.as_slice();
         for (id, progress) in peers {
             marks.push((*id, mark.of(progress)))?;
         }
-        Ok(marks)
+        Ok(())
     }
 }
 

@@ -106,11 +106,11 @@ impl Holder {
         ensures in_range { IsHolderInRange self.old → IsHolderInRange self.new }
     {
         logs_are_the_models();
+        if !self.leads() {
+            return;
+        }
         let configs = self.configs();
-        if self.leads()
-            && !configs.newest.holds(self.me)
-            && configs.newest_index <= self.log.committed()
-        {
+        if !configs.newest.holds(self.me) && configs.newest_index <= self.log.committed() {
             self.follow(0);
         }
     }

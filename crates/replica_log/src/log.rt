@@ -215,16 +215,18 @@ impl Log {
         ensures model { OfEach sha_link self.now (λ s. AreConfigs s index result) }
     {
         let newest_index = self.conf_index_of(index);
-        let newest = self.config_of(index);
-        let older = if newest_index > self.base.index {
-            self.config_of(newest_index - 1)
-        } else {
-            newest
-        };
+        // Nearly always no configuration is kept above the base.
+        if newest_index <= self.base.index {
+            return Configs {
+                newest: self.config,
+                newest_index,
+                older: self.config,
+            };
+        }
         Configs {
-            newest,
+            newest: self.config_of(index),
             newest_index,
-            older,
+            older: self.config_of(newest_index - 1),
         }
     }
 

@@ -30,7 +30,7 @@ returns-clause-sound c =
     let last : last_index w2 ≡ last_index h.log = ap last_index to2 ∙ ap last_index to1 in
     let base : base_index w2 ≡ base_index h.log = ap base_index to2 ∙ ap base_index to1 in
     let committed : w1.committed ≡ h.log.committed = ap (λ (w : Window). w.committed) to1 in
-    let more : w2.committed ≡ max w1.committed (committed_by w1 c.as_slice-2.result.now) = ap (λ (w : Window). w.committed) to2 in
+    let more : w2.committed ≡ max w1.committed (committed_by w1 c.as_slice-3.result.now) = ap (λ (w : Window). w.committed) to2 in
     let at = c.committed-had.ensures.committed in
     let o = c.last-last.ensures.ordered in
     let low = o.committed in
@@ -61,13 +61,13 @@ returns-clause-model c = λ call m r leads.
     let low = c.last-last.ensures.ordered.committed in
     let own = ap (λ (p : Point). p.index) (c.last-last.ensures.model s r.stands.log) in
     let st1 = c.raise_promise.ensures.model s r.stands.log m (sym r.stands.term) (λ i v above within counts.
-    ap (λ marks. mark_of marks v) (c.as_slice.ensures.value ∙ c.in_ok-marks.ensures)
+    ap (λ marks. mark_of marks v) (c.as_slice-2.ensures.value ∙ c.in_ok-put_marks.ensures)
     ∙ accepted-marks s m h.me l.progress r.stands.me like.progress c.last-last.result.index own v) in
     let st2 = c.raise_commit.ensures.model s1 st1 m (λ i v above within counts.
-    ap (λ marks. mark_of marks v) (c.as_slice-2.ensures.value ∙ c.in_ok-promises.ensures)
+    ap (λ marks. mark_of marks v) (c.as_slice-3.ensures.value ∙ c.in_ok-put_marks-2.ensures)
     ∙ promised-marks s1 m h.me l.progress r.stands.me like.progress c.promised-promised.result (c.promised-promised.ensures.model s1 st1) v) in
     both_ok c.apply_committed.result (λ h-is b-is.
-    raises c.logs_are_the_models.ensures h l w1 w2 (committed_by w1 c.as_slice-2.result.now) b c.in-Leader.is to2 c.apply_committed.ensures.ordered (omega (arith, base, low, committed))
+    raises c.logs_are_the_models.ensures h l w1 w2 (committed_by w1 c.as_slice-3.result.now) b c.in-Leader.is to2 c.apply_committed.ensures.ordered (omega (arith, base, low, committed))
     call m had c.apply_committed.new.self c.apply_committed.new.batch r leads st1 st2 c.requires.tickets c.committed-had.ensures.committed h-is b-is)
     c.apply_committed.ensures.after c.apply_committed.ensures.batch
 

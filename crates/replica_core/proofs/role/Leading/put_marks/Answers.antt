@@ -3,10 +3,10 @@ use Rattle.std.proofs.lemmas.List.{take_all}
 use Rattle.replica_model.specs.declared.Progress.{Progress}
 use Rattle.replica_core.specs.Keeping.{mark_in, unknown}
 use Rattle.replica_core.proofs.Listed.{map-more}
-use Rattle.replica_core.proofs.role.Leading.marks.Goals as goal
+use Rattle.replica_core.proofs.role.Leading.put_marks.Goals as goal
 
 pub loop-id-init : goal.loop-id-init
-loop-id-init c = c.in_ok-push.ensures.items ∙ ap (λ xs. xs ++ (c.args.me, c.args.own) ∷ []) c.in_ok-marks.ensures.items
+loop-id-init c = c.in_ok-push.ensures.items ∙ ap (λ xs. xs ++ (c.args.me, c.args.own) ∷ []) c.clear.ensures.items
 
 pub loop-id-preserved : goal.loop-id-preserved
 loop-id-preserved c =
