@@ -11,23 +11,25 @@ use Rattle.schedule_model.specs.Quantities as quantity
 use Rattle.schedule_model.specs.Quantities.{Quantity}
 use Rattle.schedule_model.specs.Written.{Written, On, Off, AtLimit, AtField, last_of}
 use Rattle.group_model.specs.Field.{Field}
-use Rattle.group_model.specs.Group.{Answered, Group, Sent}
+use Rattle.group_model.specs.Group.{Group}
 use Rattle.group_model.specs.Happens.{Came, Refused, Replied, Reported, Passed, Happening, Happened, Broken, Unanswered, happens}
 use Rattle.trace_model.specs.Limits.{first_passed, passed_after, passed_before, starts_one}
 use Rattle.trace_model.specs.Trace.{Playing, came_lines, happened, happened_text, played, tried, unless_failed, within_limits}
 use Rattle.enclave_host.specs.Fields.{Map}
-use Rattle.group_world.specs.declared.answered.Answered.{Answered as Kept}
 use Rattle.group_world.specs.declared.came.Came as code
 use Rattle.group_world.specs.declared.came.Unplayed.{Unplayed}
 use Rattle.group_world.specs.declared.came.Unplayed.TheVariants as unplayed
-use Rattle.group_world.specs.declared.post.Letter.{Letter}
 use Rattle.group_world.specs.declared.world.World.{World}
+use Rattle.group_world.specs.declared.happened.Happened.{Happened as Telling}
 use Rattle.group_world.specs.Given.{Given}
+use Rattle.group_world.specs.Happened.{TellsCame}
 use Rattle.group_world.specs.Meanings.{Meaning, Until, MessageOf, StateOf, model_of, AreNamed, Fits, SaysMessage}
 use Rattle.group_world.specs.Playable.{HasRoom, passed_first, starts_in}
 use Rattle.group_world.specs.Plays.{ActsIn, Does, EndsAt, IsFailed, IsNamedBy, IsNamedIn, Plays, came_of, lines_by, passed_in}
 use Rattle.group_world.specs.Roster.{IsRoster}
-use Rattle.group_world.specs.Standing.{AreKept, AreLetters, IsWorld, Sees}
+use Rattle.group_world.specs.Standing.{IsWorld, Sees}
+use Rattle.group_world.proofs.ClosingLines.{as_many_answers, as_many_letters}
+use Rattle.group_world.proofs.Leaving.{tells_event}
 use Rattle.group_world.proofs.Understood.{nothing_failed}
 
 -- ---- the event is counted first
@@ -56,18 +58,6 @@ counts_one w n roster e one = λ m g h. record {
 }
 
 -- ---- the limits, by the world
-
-pub letters_length : {M : Type 0} (says : (from to : ℕ) → List ℕ → M → Type 0) (letters : List Letter) (sent : List (Sent M)) → AreLetters says letters sent → length letters ≡ length sent
-letters_length says [] [] h = refl
-letters_length says [] (s ∷ sent) h = absurd h
-letters_length says (l ∷ letters) [] h = absurd h
-letters_length says (l ∷ letters) (s ∷ sent) h = ap suc (letters_length says letters sent h.1)
-
-pub kept_length : (kept : List Kept) (given : List Answered) → AreKept kept given → length kept ≡ length given
-kept_length [] [] h = refl
-kept_length [] (g ∷ given) h = absurd h
-kept_length (k ∷ kept) [] h = absurd h
-kept_length (k ∷ kept) (g ∷ given) h = ap suc (kept_length kept given h.1)
 
 module _ {M F : Type 0} (says : (from to : ℕ) → List ℕ → M → Type 0) (w : World) (g : Group M F) (h : IsWorld says w g) where
   start_same : (r : ℕ) → starts_one g (event.Start r) ≡ starts_in w (event.Start r)
@@ -104,8 +94,8 @@ module _ {M F : Type 0} (says : (from to : ℕ) → List ℕ → M → Type 0) (
 
   after_same : passed_after g ≡ passed_in w
   after_same = λ i. first_passed (
-      (nat_lt MAX_MESSAGES (sym (letters_length says w.post g.messages h.letters) i), quantity.Messages)
-      ∷ (nat_lt MAX_ANSWERS (sym (kept_length w.answers.items g.answers h.answers) i), quantity.Answers)
+      (nat_lt MAX_MESSAGES (sym (as_many_letters says w.post g.messages h.letters) i), quantity.Messages)
+      ∷ (nat_lt MAX_ANSWERS (sym (as_many_answers w.answers.items g.answers h.answers) i), quantity.Answers)
       ∷ (nat_lt MAX_STATES (sym h.save_count i), quantity.States)
       ∷ (nat_lt MAX_CLIENTS (sym h.core_count i), quantity.Clients)
       ∷ []
@@ -153,7 +143,7 @@ lines_same says w g e c h =
     ap (λ (ls : List lines.Line). lines.lines_text (lines.event_line (length g.past + 1) e ∷ ls)) (came_same g (came_of c))
     ∙ (λ i. lines.lines_text (
     lines.event_line (sym h.events i + 1) e
-    ∷ lines_by (sym (letters_length says w.post g.messages h.letters) i + 1) (sym (kept_length w.answers.items g.answers h.answers) i + 1) (came_of c)
+    ∷ lines_by (sym (as_many_letters says w.post g.messages h.letters) i + 1) (sym (as_many_answers w.answers.items g.answers h.answers) i + 1) (came_of c)
     ))
 
 -- ---- what was named, up to the end of an event
@@ -190,33 +180,35 @@ module _ (w w1 w' : World) (map map' : Option Map) (given : List Given) (e : Eve
   -- it happened
   module _ (c : code.Came) (does : Does (ActsIn e) w1 w' map map' given (Ok c)) where
     happened_is : (m : Meaning) (later : List Given) (p : Playing (MessageOf m) (StateOf m)) → Sees m w map (given ++ later) p.group → IsNamedBy m p e
-        → (h : Group (MessageOf m) (StateOf m)) × (played (model_of m) p e ≡ within_limits (model_of m) p (happened_text p.group e (came_of c)) h (passed_after h)) × Sees m w' map' later h
+        → (h : Group (MessageOf m) (StateOf m)) × (played (model_of m) p e ≡ within_limits (model_of m) p (happened_text p.group e (came_of c)) h (passed_after h)) × Sees m w' map' later h × (happens (model_of m) e p.group ≡ Happened (came_of c) h)
     happened_is m later p sees named =
         let (h, it, seen) = does m later (record p.group { past = e ∷ p.group.past }) (happens (model_of m) e p.group) (sees_counted m (given ++ later) p.group sees) refl (named_in m p sees.world named) in (
           h,
           happens_is m p sees.world ∙ ap (happened (model_of m) p e) it
               ∙ ap (unless_failed (model_of m) p (happened_text p.group e (came_of c)) h) (nothing_failed m map' later h.field seen.field),
           seen,
+          it,
         )
 
-    pub event_plays : {T : Type 0} (done : T) (before after : List ℕ) → passed_in w' ≡ None → after ≡ before ++ text_by w e c
+    pub event_plays : (done : Telling) (before after : List ℕ) → passed_in w' ≡ None → after ≡ before ++ text_by w e c → TellsCame (came_of c) (length w.answers.items + 1) done
         → Plays w w' map map' given e before after (Ok done)
-    event_plays done before after within text = (
+    event_plays done before after within text told = (
       text_by w e c,
       text,
       λ m later p (sees, stands) named.
-          let (h, it, seen) = happened_is m later p sees named in (
+          let (h, it, seen, so) = happened_is m later p sees named in (
             record p { group = h; stands = h.field },
             it ∙ ap (within_limits (model_of m) p (happened_text p.group e (came_of c)) h) (after_same (SaysMessage m) w' h seen.world ∙ within)
                 ∙ ap (λ (t : List ℕ). On t (record p { group = h; stands = h.field })) (lines_same (SaysMessage m) w p.group e c sees.world),
             (seen, refl),
             refl,
+            tells_event m e done p.group h (came_of c) so (subst (λ (n : ℕ). TellsCame (came_of c) (n + 1) done) (as_many_answers w.answers.items p.group.answers sees.world.answers) told),
           ),
     )
 
     pub event_passes : (q : Quantity) → passed_in w' ≡ Some q → EndsAt w map map' given e (AtLimit q)
     event_passes q some = λ m p (sees, stands) named.
-        let (h, it, seen) = happened_is m [] p (subst (λ (ds : List Given). Sees m w map ds p.group) (sym (append-nil given)) sees) named in (
+        let (h, it, seen, so) = happened_is m [] p (subst (λ (ds : List Given). Sees m w map ds p.group) (sym (append-nil given)) sees) named in (
           record p { stands = h.field },
           it ∙ ap (within_limits (model_of m) p (happened_text p.group e (came_of c)) h) (after_same (SaysMessage m) w' h seen.world ∙ some),
           seen.field,
@@ -228,22 +220,22 @@ module _ (w w1 w' : World) (map map' : Option Map) (given : List Given) (e : Eve
   failed_ends field p Unanswered failed = (p, refl)
 
   -- it did not happen
-  pub event_stops : (T : Type 0) (u : Unplayed) (before after : List ℕ) → after ≡ before → Does (ActsIn e) w1 w' map map' given (Err u) → Plays {T = T} w w' map map' given e before after (Err u)
-  event_stops T unplayed.Memory before after same does = same
-  event_stops T unplayed.FieldFault before after same does = (
+  pub event_stops : (u : Unplayed) (before after : List ℕ) → after ≡ before → Does (ActsIn e) w1 w' map map' given (Err u) → Plays w w' map map' given e before after (Err u)
+  event_stops unplayed.Memory before after same does = same
+  event_stops unplayed.FieldFault before after same does = (
     same,
     λ m p (sees, stands) named.
         let failed = does m (record p.group { past = e ∷ p.group.past }) (happens (model_of (Until m)) e p.group) (sees_counted (Until m) given p.group sees) refl (named_in (Until m) p sees.world named) in
         let (q, it) = failed_ends (model_of (Until m)) p (happens (model_of (Until m)) e p.group) failed in
         (q, happens_is (Until m) p sees.world ∙ it),
   )
-  event_stops T (unplayed.Frame at) before after same does = (
+  event_stops (unplayed.Frame at) before after same does = (
     same,
     λ m p (sees, stands) named.
         let (f, it, fits) = does m (record p.group { past = e ∷ p.group.past }) (happens (model_of m) e p.group) (sees_counted m given p.group sees) refl (named_in m p sees.world named) in
         (record p { stands = f }, happens_is m p sees.world ∙ ap (happened (model_of m) p e) it, fits),
   )
-  event_stops T (unplayed.Limit which) before after same does = absurd does
+  event_stops (unplayed.Limit which) before after same does = absurd does
 
 -- it would pass a limit
 pub event_limited : (w : World) (map : Option Map) (e : Event) (q : Quantity) → passed_first w e ≡ Some q → EndsAt w map map [] e (AtLimit q)

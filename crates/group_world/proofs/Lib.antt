@@ -1,16 +1,18 @@
 mod CoresLemmas
 mod ClientEvents
-mod ClosingLines
+pub mod ClosingLines
 mod Own
 mod Framed
 mod Lookups
+mod NewestAnswer
 mod Handed
 mod Understood
 mod Happening
 mod Telling
 mod Rolling
+mod Leaving
 mod EventLines
-mod Named
+pub mod Named
 mod Waiting
 mod Queued
 mod Kept
@@ -19,8 +21,8 @@ mod Enlisting
 mod Hellos
 mod Starting
 mod Before
-mod Pieces
-mod Playing
-mod Recorded
+pub mod Pieces
+pub mod Playing
+pub mod Recorded
 mod Running
 mod Beginning

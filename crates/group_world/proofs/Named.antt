@@ -288,7 +288,7 @@ module _ (m : Meaning) where
   onto-till text (On more p) named = named
   onto-till text (Off more stop p) named = named
 
-  follow-so : (w : Written P) (next : P → Written P) → GoesOnSo w → ((q : P) → StandsAsGroup q → GoesOnSo (next q)) → GoesOnSo (follow w next)
+  pub follow-so : (w : Written P) (next : P → Written P) → GoesOnSo w → ((q : P) → StandsAsGroup q → GoesOnSo (next q)) → GoesOnSo (follow w next)
   follow-so (On text q) next so rest = onto-so text (next q) (rest q so)
   follow-so (Off text stop q) next so rest = so
 
@@ -297,7 +297,7 @@ module _ (m : Meaning) where
   follow-till (On text q) next so rest named = rest q so (onto-till text (next q) named)
   follow-till (Off text stop q) next so rest named = named
 
-  settle-so : (n : ℕ) (p : P) → StandsAsGroup p → GoesOnSo (settled (model_of m) n p)
+  pub settle-so : (n : ℕ) (p : P) → StandsAsGroup p → GoesOnSo (settled (model_of m) n p)
   settle-so zero p stands = stands
   settle-so (suc n) p stands = by (next_message p.group) (λ k q so. settle-so n q so)
     where
@@ -316,7 +316,7 @@ module _ (m : Meaning) where
       by (Some k) rest named =
           played_before p (event.Deliver k) stands (follow-till (played (model_of m) p (event.Deliver k)) (settled (model_of m) n) (played_so p (event.Deliver k)) rest named)
 
-  expand-so : (p : P) (e : Event) → StandsAsGroup p → GoesOnSo (expanded (model_of m) p e)
+  pub expand-so : (p : P) (e : Event) → StandsAsGroup p → GoesOnSo (expanded (model_of m) p e)
   expand-so p (event.Begin margin limit voters) stands = played_so p (event.Begin margin limit voters)
   expand-so p (event.Start r) stands = played_so p (event.Start r)
   expand-so p (event.Tick r) stands = played_so p (event.Tick r)
@@ -336,7 +336,7 @@ module _ (m : Meaning) where
   expand-so p (event.Margin r n) stands = played_so p (event.Margin r n)
   expand-so p (event.Again c) stands = played_so p (event.Again c)
 
-  expand-before : (p : P) (e : Event) → StandsAsGroup p → IsNamedTill (expanded (model_of m) p e) → AreNamed m p.stands
+  pub expand-before : (p : P) (e : Event) → StandsAsGroup p → IsNamedTill (expanded (model_of m) p e) → AreNamed m p.stands
   expand-before p (event.Begin margin limit voters) stands named = played_before p (event.Begin margin limit voters) stands named
   expand-before p (event.Start r) stands named = played_before p (event.Start r) stands named
   expand-before p (event.Tick r) stands named = played_before p (event.Tick r) stands named

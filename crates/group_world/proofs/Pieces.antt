@@ -1,10 +1,10 @@
 -- What is played of a schedule, piece after piece.
-use Rattle.std.proofs.Common.{refl, sym, ap, subst, ◌∙◌, ◌≡◌, ℕ, zero, suc, Bool, List, [], ◌++◌, Option, Some, None, Result, Ok, Err, append-nil, append_assoc}
+use Rattle.std.proofs.Common.{refl, sym, ap, subst, ◌∙◌, ◌≡◌, ℕ, suc, Bool, List, [], ◌++◌, Option, Some, None, Result, Ok, Err, append-nil, append_assoc}
 use Rattle.values.specs.declared.event.Event.{Event}
 use Rattle.values.specs.declared.event.Event.TheVariants as event
 use Rattle.record_stream.specs.declared.player.Stop.{Stop as Stopping}
 use Rattle.record_stream.specs.declared.player.Stop.TheVariants as stop
-use Rattle.schedule_model.specs.Written.{Written, On, Off, AtField, follow, onto, stopped_text}
+use Rattle.schedule_model.specs.Written.{Written, On, follow, onto, stopped_text}
 use Rattle.group_model.specs.Group.{Group, next_message}
 use Rattle.trace_model.specs.Trace.{Playing, expanded, played, settled}
 use Rattle.enclave_host.specs.Fields.{Map}
@@ -14,7 +14,7 @@ use Rattle.group_world.specs.Given.{Given}
 use Rattle.group_world.specs.Halted.{Halts, stop_by}
 use Rattle.group_world.specs.Meanings.{Meaning, Until, MessageOf, StateOf, SaysMessage, model_of}
 use Rattle.group_world.specs.Playable.{IsPlayable}
-use Rattle.group_world.specs.Plays.{EndsAt, SeesPlaying}
+use Rattle.group_world.specs.Plays.{SeesPlaying}
 use Rattle.group_world.specs.Playing.{IsNamedPiece, Piece, PlaysOff, PlaysOn, PlaysSome, PlaysUpTo, Writes, all_of, deliveries, one_event}
 use Rattle.group_world.specs.Standing.{IsWorld}
 use Rattle.group_world.proofs.Before.{follow_onto, named_delivery, onto_none, onto_onto}

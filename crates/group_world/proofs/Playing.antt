@@ -1,8 +1,8 @@
 -- One record, on every way that the group may take.
-use Rattle.std.proofs.Common.{refl, sym, ap, subst, ◌∙◌, ◌≡◌, ℕ, ◌+◌, Bool, true, false, is_some, List, [], ◌∷◌, ◌++◌, Option, Some, None, Result, Ok, Err, OnErr, OnOk, append-nil, append_assoc}
+use Rattle.std.proofs.Common.{refl, sym, ap, subst, ◌∙◌, ◌≡◌, ℕ, ◌+◌, Bool, true, false, List, [], ◌∷◌, ◌++◌, Option, Some, None, Result, Ok, Err, OnErr, OnOk, append-nil, append_assoc}
 use Rattle.values.specs.declared.event.Event.{Event}
 use Rattle.record_cutting.specs.Lines.{Record}
-use Rattle.record_stream.specs.Course.{Adds, Begins, Course, Cuts, Goes, Grows, Is, Outlook, PlaysTo, Stops}
+use Rattle.record_stream.specs.Course.{Adds, Begins, Breaks, Course, Cuts, Goes, Grows, Outlook, PlaysTo, Stops}
 use Rattle.record_stream.specs.declared.player.Stop.{Stop as Stopping}
 use Rattle.record_stream.specs.declared.player.Stop.TheVariants as stop
 use Rattle.schedule_model.specs.Reading.{RecordFault}
@@ -19,10 +19,10 @@ use Rattle.group_world.specs.declared.world.World.{World}
 use Rattle.group_world.specs.Given.{Given}
 use Rattle.group_world.specs.Closing.{closing_of}
 use Rattle.group_world.specs.Halted.{Halts, halt_for, halted_by, quantity_for, stop_by}
-use Rattle.group_world.specs.Meanings.{Meaning, Until, MessageOf, StateOf, SaysMessage, model_of, AreNamed, Fits}
+use Rattle.group_world.specs.Meanings.{Meaning, Until, MessageOf, StateOf, SaysMessage, model_of, AreNamed}
 use Rattle.group_world.specs.Openings.{fits_spent}
 use Rattle.group_world.specs.Plays.{SeesPlaying}
-use Rattle.group_world.specs.Playing.{IsUpTo, PlaysOff, PlaysOn, PlaysSome, PlaysUpTo, Takes, Way, Writes, all_of, asks_all, close_by, course, course_of, is_spent}
+use Rattle.group_world.specs.Playing.{IsUpTo, PlaysOff, PlaysOn, PlaysSome, PlaysUpTo, Takes, Way, Writes, all_of, asks_all, close_by, course, course_of, gone_on, is_at_field, is_spent, next_way}
 use Rattle.group_world.proofs.ClosingLines.{closing_same}
 use Rattle.group_world.proofs.Before.{follow_onto, last_onto, named_first}
 use Rattle.group_world.proofs.Named.{GoesOnSo, IsNamedTill, StandsAsGroup, record_before, record_so}
@@ -47,7 +47,7 @@ quantity_back counting.Replicas = refl
 quantity_back counting.States = refl
 quantity_back counting.Clients = refl
 
-halt_back : (h : Halt) → halt_for (stop_by h) ≡ Some h
+pub halt_back : (h : Halt) → halt_for (stop_by h) ≡ Some h
 halt_back (halt.Record number cause field) = refl
 halt_back (halt.Limit which) = ap (λ (w : Quantity). Some (halt.Limit w)) (quantity_back which)
 halt_back (halt.Frame at) = refl
@@ -63,16 +63,11 @@ module _ (m : Meaning) where
   abbrev P : Type 0
   P = Playing (MessageOf m) (StateOf m)
 
-  -- where a record ended the text, a group whose field stands there
-  abbrev pub after : Written P → P
-  after (On text q) = q
-  after (Off text stop q) = record q { group = record q.group { field = q.stands } }
-
-  after_stands : (w : Written P) → GoesOnSo m w → StandsAsGroup m (after w)
+  after_stands : (w : Written P) → GoesOnSo m w → StandsAsGroup m (gone_on m w)
   after_stands (On text q) h = h
   after_stands (Off text stop q) h = refl
 
-  after_ends : (w : Written P) → (after w).stands ≡ (last_of w).stands
+  after_ends : (w : Written P) → (gone_on m w).stands ≡ (last_of w).stands
   after_ends (On text q) = refl
   after_ends (Off text stop q) = refl
 
@@ -92,18 +87,21 @@ module _ (m : Meaning) where
     named : (more : List Record) → (course_of m p).holds ((r ∷ []) ++ more) → IsNamedTill m W
     named more here = named_first m p stands r more here
 
-    pub goes_one : (text : List ℕ) → (IsNamedTill m W → (q : P) × (W ≡ On text q)) → Goes (course_of m p) (r ∷ []) (course_of m (after W)) text
+    pub goes_one : (text : List ℕ) → (IsNamedTill m W → (q : P) × (W ≡ On text q)) → Goes (course_of m p) (r ∷ []) (course_of m (gone_on m W)) text
     goes_one text on = record {
-      holds = λ more here. turn (λ (w : Written P). IsNamedTill m (follow w (next more)) → IsNamedTill m (next more (after w))) (λ q. named_more q more) (named more here) (subst (IsNamedTill m) (first_is more) here);
+      holds = λ more here. turn (λ (w : Written P). IsNamedTill m (follow w (next more)) → IsNamedTill m (next more (gone_on m w))) (λ q. named_more q more) (named more here) (subst (IsNamedTill m) (first_is more) here);
       text = λ closed more here.
           ap (text_with (close_by closed)) (first_is more)
-          ∙ turn (λ (w : Written P). text_with (close_by closed) (follow w (next more)) ≡ text ++ text_with (close_by closed) (next more (after w))) (λ q. text_onto text (close_by closed) (next more q)) (named more here);
+          ∙ turn (λ (w : Written P). text_with (close_by closed) (follow w (next more)) ≡ text ++ text_with (close_by closed) (next more (gone_on m w))) (λ q. text_onto text (close_by closed) (next more q)) (named more here);
       reason = λ more here.
           ap (λ (w : Written P). halted_by (stop_of w)) (first_is more)
-          ∙ turn (λ (w : Written P). halted_by (stop_of (follow w (next more))) ≡ halted_by (stop_of (next more (after w)))) (λ q. ap halted_by (stop_onto text (next more q))) (named more here);
+          ∙ turn (λ (w : Written P). halted_by (stop_of (follow w (next more))) ≡ halted_by (stop_of (next more (gone_on m w)))) (λ q. ap halted_by (stop_onto text (next more q))) (named more here);
+      failed = λ more here.
+          ap (λ (w : Written P). is_at_field (stop_of w)) (first_is more)
+          ∙ turn (λ (w : Written P). is_at_field (stop_of (follow w (next more))) ≡ is_at_field (stop_of (next more (gone_on m w)))) (λ q. ap is_at_field (stop_onto text (next more q))) (named more here);
       takes_all = λ more here.
           ap (λ (w : Written P). asks_all m (stop_of w) (last_of w).stands) (first_is more)
-          ∙ turn (λ (w : Written P). asks_all m (stop_of (follow w (next more))) (last_of (follow w (next more))).stands ≡ asks_all m (stop_of (next more (after w))) (last_of (next more (after w))).stands) (λ q. all_onto (next more q)) (named more here);
+          ∙ turn (λ (w : Written P). asks_all m (stop_of (follow w (next more))) (last_of (follow w (next more))).stands ≡ asks_all m (stop_of (next more (gone_on m w))) (last_of (next more (gone_on m w))).stands) (λ q. all_onto (next more q)) (named more here);
     }
       where
         -- what holds of a text that goes on holds of this one
@@ -146,17 +144,17 @@ module _ (m : Meaning) where
           );
     }
 
-    pub is_one : (text : List ℕ) → (IsNamedTill m W → (q : P) × (W ≡ Off text AtField q)) → Is (course_of m p) (r ∷ []) text
-    is_one text off = record {
+    pub breaks_one : (text : List ℕ) → (IsNamedTill m W → (q : P) × (W ≡ Off text AtField q)) → Breaks (course_of m p) (r ∷ []) text
+    breaks_one text off = record {
       text = λ closed more here.
           let (q, is) = off (named more here) in
           ap (λ (w : Written P). text_with (close_by closed) w) (first_is more ∙ ap (λ (w : Written P). follow w (next more)) is) ∙ append-nil text;
+      failed = λ more here.
+          let (q, is) = off (named more here) in
+          ap (λ (w : Written P). is_at_field (stop_of w)) (first_is more ∙ ap (λ (w : Written P). follow w (next more)) is);
     }
 
 -- ---- on every way
-
-abbrev pub next_way : Way → Record → Way
-next_way way r = record { meaning = way.meaning; playing = after way.meaning (record_played (model_of way.meaning) way.playing r) }
 
 module _ (w w' : World) (records : ℕ) (map map' : Option Map) (r : Record) where
   -- where the group that is seen stands, the record says the same
@@ -173,18 +171,17 @@ module _ (w w' : World) (records : ℕ) (map map' : Option Map) (r : Record) whe
         → (q : Playing (MessageOf m) (StateOf m)) × (record_played (model_of m) p r ≡ On text q) × SeesPlaying m w' map' later q × (q.records ≡ p.records + 1)
 
     pub way_goes : GoesOn → (fails : Bool) (later : List Given) (way : Way) → Takes w records map fails (given ++ later) way
-        → (v : Way) × Goes (course way) (r ∷ []) (course v) text × Takes w' (records + 1) map' fails later v
+        → Goes (course way) (r ∷ []) (course (next_way way r)) text × Takes w' (records + 1) map' fails later (next_way way r)
     way_goes goes fails later way t =
         let m = way.meaning in
         let p = way.playing in (
-          next_way way r,
           goes_one m p t.stands r text (λ named. let (q, is, seen, counted) = on t named in (q, is)),
           record {
             up_to = t.up_to;
             stands = after_stands m (record_played (model_of m) p r) (record_so m p r t.stands);
             sees = λ named.
                 let (q, is, seen, counted) = on t (subst (AreNamed m) (after_ends m (record_played (model_of m) p r)) named) in
-                subst (λ (x : Written (Playing (MessageOf m) (StateOf m))). SeesPlaying m w' map' later (after m x) × ((after m x).records ≡ records + 1)) (sym is) (seen, counted);
+                subst (λ (x : Written (Playing (MessageOf m) (StateOf m))). SeesPlaying m w' map' later (gone_on m x) × ((gone_on m x).records ≡ records + 1)) (sym is) (seen, counted);
           },
         )
       where
@@ -212,11 +209,11 @@ module _ (w w' : World) (records : ℕ) (map map' : Option Map) (r : Record) whe
 
     pub way_fails : ((m : Meaning) (p : Playing (MessageOf (Until m)) (StateOf (Until m))) → SeesPlaying (Until m) w map given p → IsNamedTill (Until m) (record_played (model_of (Until m)) p r)
         → (q : Playing (MessageOf (Until m)) (StateOf (Until m))) × (record_played (model_of (Until m)) p r ≡ Off text AtField q))
-        → (way : Way) → Takes w records map true given way → Is (course way) (r ∷ []) text
+        → (way : Way) → Takes w records map true given way → Breaks (course way) (r ∷ []) text
     way_fails off way t = fails way.meaning way.playing t.up_to t.stands t.sees
       where
-        fails : (m : Meaning) (p : Playing (MessageOf m) (StateOf m)) → IsUpTo true m → StandsAsGroup m p → (AreNamed m p.stands → SeesPlaying m w map given p × (p.records ≡ records)) → Is (course_of m p) (r ∷ []) text
-        fails (Until m) p up_to stands sees = is_one (Until m) p stands r text (λ named. let (seen, counted) = sees (record_before (Until m) p r stands named) in off m p seen named)
+        fails : (m : Meaning) (p : Playing (MessageOf m) (StateOf m)) → IsUpTo true m → StandsAsGroup m p → (AreNamed m p.stands → SeesPlaying m w map given p × (p.records ≡ records)) → Breaks (course_of m p) (r ∷ []) text
+        fails (Until m) p up_to stands sees = breaks_one (Until m) p stands r text (λ named. let (seen, counted) = sees (record_before (Until m) p r stands named) in off m p seen named)
         fails m p up_to stands sees = absurd up_to
 
   -- a record that is none
@@ -234,7 +231,7 @@ module _ (w w' : World) (records : ℕ) (map map' : Option Map) (r : Record) whe
     says m p ds sees = reads_so m p ds (Ok (Some e)) reads sees
 
     pub event_goes : PlaysOn (all_of e) w w' map map' given text → (fails : Bool) (later : List Given) (way : Way) → Takes w records map fails (given ++ later) way
-        → (v : Way) × Goes (course way) (r ∷ []) (course v) text × Takes w' (records + 1) map' fails later v
+        → Goes (course way) (r ∷ []) (course (next_way way r)) text × Takes w' (records + 1) map' fails later (next_way way r)
     event_goes plays = way_goes given text (λ m later p sees named.
         let is = says m p (given ++ later) sees in
         let (q, it, seen, same) = plays m later (counted p) sees (subst (IsNamedTill m) is named) in
@@ -252,7 +249,7 @@ module _ (w w' : World) (records : ℕ) (map map' : Option Map) (r : Record) whe
         let (rest, it) = plays m (counted p) sees (subst (IsNamedTill m) is named) in
         (rest, is ∙ it))
 
-    pub event_fails : PlaysUpTo (all_of e) w w' map map' given text → (way : Way) → Takes w records map true given way → Is (course way) (r ∷ []) text
+    pub event_fails : PlaysUpTo (all_of e) w w' map map' given text → (way : Way) → Takes w records map true given way → Breaks (course way) (r ∷ []) text
     event_fails plays = way_fails given text (λ m p sees named.
         let is = says (Until m) p given sees in
         let (q, it) = plays m (counted p) sees (subst (IsNamedTill (Until m)) is named) in
@@ -260,7 +257,7 @@ module _ (w w' : World) (records : ℕ) (map map' : Option Map) (r : Record) whe
 
 -- a remark
 pub remark_goes : (w : World) (records : ℕ) (map : Option Map) (r : Record) → event_of false w.begun r ≡ Ok None → (fails : Bool) (later : List Given) (way : Way) → Takes w records map fails later way
-    → (v : Way) × Goes (course way) (r ∷ []) (course v) [] × Takes w (records + 1) map fails later v
+    → Goes (course way) (r ∷ []) (course (next_way way r)) [] × Takes w (records + 1) map fails later (next_way way r)
 remark_goes w records map r reads =
     way_goes w w records map map r [] [] (λ m later p sees named. (counted p, reads_so w w records map map r m p later (Ok None) reads sees, sees, refl))
 
@@ -275,7 +272,7 @@ never_done e done is = cc is
 -- of a record that says an event, by what was written
 module _ {S : Type 0} (gains : S → S → List Given → Type 0) (takes : S → Outlook Way Given) (p q : S) (w w' : World) (records : ℕ) (map map' : Option Map) (r : Record) (e : Event)
     (reads : event_of false w.begun r ≡ Ok (Some e)) (given : List Given) (gained : gains p q given) (was : (fails : Bool) (ds : List Given) (way : Way) → takes p fails ds way → Takes w records map fails ds way) where
-  event_stopped : {T : Type 0} (before after : List ℕ) (o : Result T (Stopping Halt)) → ((done : T) → o ≡ Ok done → ⊥) → Writes (all_of e) w w' map map' given before after o → PlaysTo gains takes course p (r ∷ []) q before after o
+  event_stopped : {T : Type 0} (before after : List ℕ) (o : Result T (Stopping Halt)) → ((done : T) → o ≡ Ok done → ⊥) → Writes (all_of e) w w' map map' given before after o → PlaysTo gains takes course next_way p (r ∷ []) q before after o
   event_stopped before after (Ok done) never h = absurd (never done refl)
   event_stopped before after (Err (stop.Stopped why)) never (text, grown, off) = (
     text ++ stopped_text (stop_by why),
@@ -292,22 +289,22 @@ module _ {S : Type 0} (gains : S → S → List Given → Type 0) (takes : S →
     record {
       given = given;
       gained = gained;
-      is = λ way taken. event_fails w w' records map map' r e reads given text up_to way (was true given way taken);
+      breaks = λ way taken. event_fails w w' records map map' r e reads given text up_to way (was true given way taken);
       begins = λ way taken. event_begins w w' records map map' r e reads given text some way (was false given way taken);
     },
     grown,
   )
 
   pub event_played : {T : Type 0} (before after : List ℕ) (o : Result T (Stopping Halt)) → OnOk o ((fails : Bool) (ds : List Given) (way : Way) → Takes w' (records + 1) map' fails ds way → takes q fails ds way)
-      → Writes (all_of e) w w' map map' given before after o → PlaysTo gains takes course p (r ∷ []) q before after o
+      → Writes (all_of e) w w' map map' given before after o → PlaysTo gains takes course next_way p (r ∷ []) q before after o
   event_played before after (Ok done) is (text, grown, plays) = (
     text,
     record {
       given = given;
       gained = gained;
       goes = λ fails later way taken.
-          let (v, goes, next) = event_goes w w' records map map' r e reads given text plays fails later way (was fails (given ++ later) way taken) in
-          (v, goes, is fails later v next);
+          let (goes, next) = event_goes w w' records map map' r e reads given text plays fails later way (was fails (given ++ later) way taken) in
+          (goes, is fails later (next_way way r) next);
     },
     grown,
   )
@@ -317,11 +314,11 @@ module _ {S : Type 0} (gains : S → S → List Given → Type 0) (takes : S →
 module _ {S : Type 0} (gains : S → S → List Given → Type 0) (takes : S → Outlook Way Given) (p q : S) (w : World) (records : ℕ) (map : Option Map) (r : Record)
     (none : gains p q []) (was : (fails : Bool) (ds : List Given) (way : Way) → takes p fails ds way → Takes w records map fails ds way) where
   -- nothing was written
-  pub none_played : (before : List ℕ) → (text : List ℕ) × Cuts gains takes course p (r ∷ []) q text × Grows before before text
+  pub none_played : (before : List ℕ) → (text : List ℕ) × Cuts gains takes course next_way p (r ∷ []) q text × Grows before before text
   none_played before = ([], record { given = []; gained = none; begins = λ way taken. begins_nothing (course way) (r ∷ []) }, sym (append-nil before))
 
   pub fault_played : {T : Type 0} (why : Halt) (fault : RecordFault) (before after : List ℕ) (o : Result T (Stopping Halt)) → event_of false w.begun r ≡ Err fault → why ≡ halt.Record (records + 1) fault.cause fault.field
-      → Halts why before after o → PlaysTo gains takes course p (r ∷ []) q before after o
+      → Halts why before after o → PlaysTo gains takes course next_way p (r ∷ []) q before after o
   fault_played why fault before after (Ok done) says is h = absurd h
   fault_played why fault before after (Err (stop.Stopped said)) says is (same, grown) = (
     stopped_text (stop_by why),

@@ -1,25 +1,23 @@
 -- A whole source, played from where nothing has started.
-use Rattle.std.proofs.Common.{arith, refl, sym, ap, subst, ◌∙◌, ◌≡◌, ◌≢◌, ◌≤◌, ◌<◌, ◌==◌, ℕ, Bool, true, false, List, [], ◌∷◌, ◌++◌, length, take, Option, Some, None, IfSome, is_some}
+use Rattle.std.proofs.Common.{arith, refl, sym, ap, subst, ◌∙◌, ◌≡◌, ◌≢◌, ◌≤◌, ℕ, Bool, true, false, List, [], ◌∷◌, ◌++◌, length, take, Option, Some, None, IfSome, is_some, fold}
 use Rattle.std.proofs.lemmas.Bool.{eqb-true}
-use Rattle.std.specs.Prelude.{IsSome, IsSomeAnd}
+use Rattle.std.specs.Prelude.{IsSome}
 use Rattle.std.specs.Io.KnownBytes.{Appends, Consumes}
-use Rattle.byte_streams.specs.Causes.{Rose}
 use Rattle.record_cutting.specs.Lines.{Record, records_of, whole_records}
 use Rattle.record_stream.specs.Course.{Course, Outlook}
-use Rattle.record_stream.specs.Ends.{EndsOver, PlayedOver, StoppedFor, Unstopped, limit}
+use Rattle.record_stream.specs.Ends.{EndsOver, FailedIn, PlayedOver, StoppedFor, Unstopped, limit}
 use Rattle.record_stream.specs.Ends as stream
 use Rattle.record_stream.specs.declared.source.Ended.{Ended}
 use Rattle.record_stream.specs.declared.source.Ended.TheVariants as ended
 use Rattle.schedule_model.specs.Quantities as quantity
 use Rattle.schedule_model.specs.Quantities.{Quantity}
-use Rattle.schedule_model.specs.Written.{Stop, AtRecord, AtLimit, AtFrame, AtField, last_of, stop_of}
+use Rattle.schedule_model.specs.Written.{Stop, AtRecord, AtLimit, AtFrame, AtField, last_of, stop_of, Written, On, Off, all_written, follow, onto}
 use Rattle.group_model.specs.Field.{Field}
 use Rattle.group_model.specs.Group.{nothing_started}
 use Rattle.group_model.specs.Run.{Enclaves, enclaves, no_enclaves}
-use Rattle.replica_model.specs.Keyed.{value_at}
 use Rattle.replica_model.specs.Linked.{sha_link}
 use Rattle.trace_model.specs.Contents.{contents}
-use Rattle.trace_model.specs.Trace.{Playing, playing, records_played}
+use Rattle.trace_model.specs.Trace.{Playing, playing, records_played, record_played}
 use Rattle.trace_text.specs.Refused.{quantity_of}
 use Rattle.trace_text.specs.declared.stopped.Quantity.TheVariants as counted
 use Rattle.enclave_host.specs.Fields.{Gains, Map}
@@ -32,11 +30,12 @@ use Rattle.group_world.specs.declared.schedule.Which.TheVariants as which
 use Rattle.group_world.specs.declared.world.World.{World}
 use Rattle.group_world.specs.Failing.{Failing, failing}
 use Rattle.group_world.specs.Given.{Given, contents_in}
-use Rattle.group_world.specs.Halted.{halt_for, halted_by, quantity_for, stop_by}
+use Rattle.group_world.specs.Halted.{halted_by, quantity_for, stop_by}
 use Rattle.group_world.specs.Meanings.{Meaning, OfEnclaves, OfContents, Until, MessageOf, StateOf, model_of, AreNamed, Fits, StandsAt, batch_of}
-use Rattle.group_world.specs.Playing.{IsUpTo, Takes, Way, asks_all, course, course_of, is_spent}
-use Rattle.group_world.specs.Runs.{CutOff, DecidedOver, Decides, Ends, EndsAs, FailedOver, IsNamedOver, IsWithoutCollision, OverContents, OverEnclaves, RunsOver, WroteLines, any, halted_as, played_by, played_for, plays}
+use Rattle.group_world.specs.Playing.{IsUpTo, Takes, Way, asks_all, course, is_at_field, is_spent, gone_on, next_way}
+use Rattle.group_world.specs.Runs.{CutOff, DecidedOver, Decides, Ends, EndsAs, FailedOver, IsWithoutCollision, OverContents, OverEnclaves, RunsOver, WroteLines, any, played_by, played_for, plays, RunsAfter}
 use Rattle.group_world.specs.Standing.{IsNew, Runs}
+use Rattle.replica_model.specs.Message.{Message}
 
 -- ---- why it ended
 
@@ -152,6 +151,43 @@ module _ (m : Meaning) (f : StateOf m) where
     sees = λ named. ((record { world = new m f; field = fits }, refl), refl);
   }
 
+-- ---- the way after all records
+
+module _ (m : Meaning) where
+  abbrev P : Type 0
+  P = Playing (MessageOf m) (StateOf m)
+
+  -- a text that goes on, by where it then stands
+  abbrev GoesTo : Written P → P → Type 0
+  GoesTo w q = (text : List ℕ) × (w ≡ On text q)
+
+  onto_goes : (text : List ℕ) (w : Written P) (q : P) → GoesTo (onto text w) q → GoesTo w q
+  onto_goes text (On more p) q (all, is) = (more, let same : p ≡ q = on_same (text ++ more) all p q is in ap (λ (p : P). On more p) same)
+    where
+      on_same : (a b : List ℕ) (p q : P) → (let one : Written P = On a p in one ≡ On b q) → p ≡ q
+      on_same a b p q is = ap last_of is
+  onto_goes text (Off more stop p) q (all, is) = absurd (never (text ++ more) all stop p q is)
+    where
+      never : (a b : List ℕ) (stop : Stop) (p q : P) → (let one : Written P = Off a stop p in one ≡ On b q) → ⊥
+      never a b stop p q is = cc is
+
+  -- the first record goes on, and then the others
+  follow_goes : (w : Written P) (next : P → Written P) (q : P) → GoesTo (follow w next) q → (p : P) × GoesTo w p × GoesTo (next p) q
+  follow_goes (On text p) next q goes = (p, (text, refl), onto_goes text (next p) q goes)
+  follow_goes (Off text stop p) next q (all, is) = absurd (cc is)
+
+  pub after_all : (rs : List Record) (p q : P) → GoesTo (records_played (model_of m) p rs) q
+      → fold next_way (record { meaning = m; playing = p }) rs ≡ record { meaning = m; playing = q }
+  unfolding all_written
+  after_all [] p q (text, is) = ap (λ (w : Written P). let way : Way = record { meaning = m; playing = last_of w } in way) is
+  after_all (r ∷ rs) p q goes =
+      let (v, (text, is), rest) = follow_goes (record_played (model_of m) p r) (λ v. records_played (model_of m) v rs) q goes in
+      ap (λ (w : Written P). fold next_way (record { meaning = m; playing = gone_on m w }) rs) is ∙ after_all rs v q rest
+
+  unstopped_goes : (w : Written P) → stop_of w ≡ None → GoesTo w (last_of w)
+  unstopped_goes (On text p) none = (text, refl)
+  unstopped_goes (Off text stop p) none = cc none
+
 -- ---- which end comes
 
 module _ {M F : Type 0} (field : Field M F) (f : F) (named spent : F → Type 0) (all : List ℕ) (left x y : Option (List ℕ)) where
@@ -217,12 +253,26 @@ as_contents : (given : List (List ℕ)) (all : List ℕ) (left x y : Option (Lis
 unfolding model_of AreNamed
 as_contents given all left x y r h = h
 
-failing_text : (n : ℕ) (all : List ℕ) (x y : Option (List ℕ))
-    → (let f : Failing Enclaves = record { inner = no_enclaves; left = n; failed = false } in
-    (course (opening (Until OfEnclaves) f)).holds (records_of all) → Appends x y ((course (opening (Until OfEnclaves) f)).text true (records_of all)))
-    → FailedOver all x y
+at_field : (o : Option Stop) → is_at_field o ≡ true → o ≡ Some AtField
+at_field (Some AtField) is = refl
+at_field None is = cc is
+at_field (Some (AtRecord number fault)) is = cc is
+at_field (Some (AtLimit passed)) is = cc is
+at_field (Some (AtFrame at)) is = cc is
+
+-- a field that answers so many asks, and fails in the next
+abbrev until : ℕ → Failing Enclaves
+until n = record { inner = no_enclaves; left = n; failed = false }
+
+failing_ends : (n : ℕ) (all : List ℕ) (x y : Option (List ℕ))
+    → (let a : Course Halt = course (opening (Until OfEnclaves) (until n)) in
+    a.holds (records_of all) → FailedIn a (records_of all) × Appends x y (a.text true (records_of all)))
+    → EndsAs (failing (enclaves sha_link)) (until n) (λ s. IsWithoutCollision s.inner) any (Some AtField) all x y
 unfolding model_of AreNamed
-failing_text n all x y h = (n, h)
+failing_ends n all x y h here =
+    let (failed, text) = h here in
+    let last = plays (failing (enclaves sha_link)) (until n) (λ s. IsWithoutCollision s.inner) any (records_of all) in
+    (record { stopped = at_field (stop_of last) failed; asked = tt }, text)
 
 some_as : {A : Type 0} (o : Option A) (P Q : A → Type 0) → ((x : A) → P x → Q x) → IfSome o P → IfSome o Q
 some_as None P Q turn h = tt
@@ -236,9 +286,9 @@ some_all (Some x) P h = h x
 module _ (S : Type 0) (gains : S → S → List Given → Type 0) (takes : S → Outlook Way Given) (p q : S) (w : World) (map : Option Map) (told told' : Option (List (List ℕ))) (new : IsNew w)
     (gained_is : (given : List Given) → gains p q given → Gains told told' (contents_in given))
     (taken_is : (fails : Bool) (given : List Given) (way : Way) → Takes w 0 map fails given way → takes p fails given way)
-    (left left' x y : Option (List ℕ)) (e : Ended Halt) (played : IfSome left (λ all. PlayedOver gains takes course p q all left' x y e)) where
+    (left left' x y : Option (List ℕ)) (e : Ended Halt) (played : IfSome left (λ all. PlayedOver gains takes course next_way p q all left' x y e)) where
   abbrev Engine : List ℕ → Type 0
-  Engine all = PlayedOver gains takes course p q all left' x y e
+  Engine all = PlayedOver gains takes course next_way p q all left' x y e
 
   enclaves_run : Idle map → (all : List ℕ) → Engine all → IsSome map → OverEnclaves all left' x y (played_by e)
   enclaves_run idle all h told =
@@ -249,14 +299,17 @@ module _ (S : Type 0) (gains : S → S → List Given → Type 0) (takes : S →
   pub over_enclaves : Idle map → IfSome left (λ all. IsSome map → OverEnclaves all left' x y (played_by e))
   over_enclaves idle = some_as left Engine (λ all. IsSome map → OverEnclaves all left' x y (played_by e)) (enclaves_run idle) played
 
-  failed_run : Idle map → e ≡ ended.Failed → (all : List ℕ) → Engine all → IsSome map → FailedOver all x y
-  failed_run idle is all h told =
-      failing_text (length h.given) all x y
-      (h.fails is (opening (Until OfEnclaves) (record { inner = no_enclaves; left = length h.given; failed = false }))
-      (taken_is true h.given _ (opening_takes (Until OfEnclaves) (record { inner = no_enclaves; left = length h.given; failed = false }) true w map h.given tt new (fits_until map h.given told idle))))
+  failed_run : Idle map → e ≡ ended.Failed → (all : List ℕ) → Engine all → IsSome map → FailedOver told told' all x y
+  failed_run idle is all h here = (
+    h.given,
+    gained_is h.given h.gained,
+    failing_ends (length h.given) all x y
+        (h.fails is (opening (Until OfEnclaves) (until (length h.given)))
+        (taken_is true h.given _ (opening_takes (Until OfEnclaves) (until (length h.given)) true w map h.given tt new (fits_until map h.given here idle)))),
+  )
 
-  pub over_failed : Idle map → e ≡ ended.Failed → IfSome left (λ all. IsSome map → FailedOver all x y)
-  over_failed idle is = some_as left Engine (λ all. IsSome map → FailedOver all x y) (failed_run idle is) played
+  pub over_failed : Idle map → e ≡ ended.Failed → IfSome left (λ all. IsSome map → FailedOver told told' all x y)
+  over_failed idle is = some_as left Engine (λ all. IsSome map → FailedOver told told' all x y) (failed_run idle is) played
 
   contents_run : (all : List ℕ) (h : Engine all) → RunsOver (contents batch_of) (contents_in h.given) any (λ later. later ≡ []) all left' x y (played_by e)
   contents_run all h =
@@ -286,7 +339,43 @@ module _ (S : Type 0) (gains : S → S → List Given → Type 0) (takes : S →
       })
       played
 
+  -- ---- who runs at the end
+
+  runs_after : (all : List ℕ) (h : Engine all) → e ≡ ended.Done → IsSome map → Idle map → (w' : World) (records : ℕ) (map' : Option Map)
+      → ((way : Way) → takes q false [] way → Takes w' records map' false [] way) → RunsAfter all map'
+  unfolding model_of AreNamed Fits
+  runs_after all h is told idle w' records map' was here =
+      let way = opening OfEnclaves no_enclaves in
+      let rs = records_of all in
+      let start : Playing Message Enclaves = playing (nothing_started no_enclaves) in
+      let taken = taken_is false h.given way (opening_takes OfEnclaves no_enclaves false w map h.given tt new (fits_none map h.given told idle)) in
+      let (end, few, said) = subst (λ (e : Ended Halt). EndsOver (course way) all left' x y e) is (h.ends way taken) in
+      let (unstopped, text) = said here in
+      let (none, spent) = stopped_none OfEnclaves (stop_of (records_played (enclaves sha_link) start rs)) (last_of (records_played (enclaves sha_link) start rs)).stands unstopped.0 unstopped.1 in
+      let last = last_of (records_played (enclaves sha_link) start rs) in
+      let same = after_all OfEnclaves rs start last (unstopped_goes OfEnclaves (records_played (enclaves sha_link) start rs) none) in
+      let t = was (record { meaning = OfEnclaves; playing = last }) (subst (takes q false []) same (h.stays is way taken)) in
+      let ((sees, stands), counted) = t.sees here in
+      sees.field
+
+  pub over_replicas : Idle map → e ≡ ended.Done → (w' : World) (records : ℕ) (map' : Option Map) → ((way : Way) → takes q false [] way → Takes w' records map' false [] way)
+      → IfSome left (λ all. IsSome map → RunsAfter all map')
+  over_replicas idle is w' records map' was = some_as left Engine (λ all. IsSome map → RunsAfter all map')
+      (λ all h here. runs_after all h is here idle w' records map' was)
+      played
+
 -- ---- faults of the whole are those of the engine
+
+pub done_by : (e : Ended Halt) → played_by e ≡ end.Done → e ≡ ended.Done
+done_by ended.Done is = refl
+done_by (ended.Stopped (halt.Record n c f)) is = cc is
+done_by (ended.Stopped (halt.Limit q)) is = cc is
+done_by (ended.Stopped (halt.Frame at)) is = cc is
+done_by ended.ReadFault is = cc is
+done_by ended.Memory is = cc is
+done_by ended.WriteFault is = cc is
+done_by ended.Limit is = cc is
+done_by ended.Failed is = cc is
 
 pub read_by : (e : Ended Halt) → played_by e ≡ end.ReadFault → e ≡ ended.ReadFault
 read_by ended.ReadFault is = refl

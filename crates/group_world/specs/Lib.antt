@@ -6,9 +6,11 @@ pub mod Queues
 pub mod Standing
 pub mod Keeping
 pub mod Missing
+pub mod Happened
 pub mod Plays
 pub mod Rolled
 pub mod Cores
+pub mod Newest
 pub mod Roster
 pub mod Playable
 pub mod Starts

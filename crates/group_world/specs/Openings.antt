@@ -1,5 +1,5 @@
 -- The laws of a group that plays records: where it stands before any of them.
-use Rattle.std.proofs.Common.{refl, sym, ap, ◌∙◌, ◌≡◌, ◌==◌, ℕ, Bool, true, false, List, [], ◌∷◌, ◌++◌, length, Option, Some, None, append-nil, append_assoc}
+use Rattle.std.proofs.Common.{refl, sym, ap, ◌∙◌, ◌≡◌, ◌==◌, ℕ, true, false, List, [], ◌∷◌, ◌++◌, length, Option, Some, None, append-nil, append_assoc}
 use Rattle.schedule_model.specs.Written.{all_written}
 use Rattle.record_stream.specs.Course.{IsHistory}
 use Rattle.trace_model.specs.Trace.{Playing}

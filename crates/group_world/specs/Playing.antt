@@ -6,7 +6,7 @@ use Rattle.record_stream.specs.Course.{Course}
 use Rattle.record_stream.specs.declared.player.Stop.{Stop as Stopping}
 use Rattle.record_stream.specs.declared.player.Stop.TheVariants as stop
 use Rattle.schedule_model.specs.Written.{Stop, AtField, Written, On, Off, last_of, no_closing, onto, stop_of, stopped_text, text_with}
-use Rattle.trace_model.specs.Trace.{Playing, closing, expanded, played, records_played, settled}
+use Rattle.trace_model.specs.Trace.{Playing, closing, expanded, played, records_played, settled, record_played}
 use Rattle.enclave_host.specs.Fields.{Map}
 use Rattle.group_world.specs.declared.halt.Halt.{Halt}
 use Rattle.group_world.specs.declared.world.World.{World}
@@ -34,6 +34,11 @@ abbrev pub asks_all : (m : Meaning) → Option Stop → StateOf m → Bool
 asks_all m (Some AtField) f = false
 asks_all m stop f = is_spent m f
 
+-- the field failed
+abbrev pub is_at_field : Option Stop → Bool
+is_at_field (Some AtField) = true
+is_at_field stop = false
+
 abbrev pub close_by : {M F : Type 0} → Bool → Playing M F → List ℕ
 close_by true = closing
 close_by false = no_closing
@@ -44,11 +49,21 @@ course_of m p = record {
   holds = λ rs. AreNamed m (last_of (records_played (model_of m) p rs)).stands;
   text = λ closed rs. text_with (close_by closed) (records_played (model_of m) p rs);
   reason = λ rs. halted_by (stop_of (records_played (model_of m) p rs));
+  failed = λ rs. is_at_field (stop_of (records_played (model_of m) p rs));
   takes_all = λ rs. asks_all m (stop_of (records_played (model_of m) p rs)) (last_of (records_played (model_of m) p rs)).stands;
 }
 
 abbrev pub course : Way → Course Halt
 course way = course_of way.meaning way.playing
+
+-- what is played after a record; where it ended the text, a group whose field stands there
+abbrev pub gone_on : (m : Meaning) → Written (Playing (MessageOf m) (StateOf m)) → Playing (MessageOf m) (StateOf m)
+gone_on m (On text q) = q
+gone_on m (Off text stop q) = record q { group = record q.group { field = q.stands } }
+
+-- the way that goes on after a record
+abbrev pub next_way : Way → Record → Way
+next_way way r = record { meaning = way.meaning; playing = gone_on way.meaning (record_played (model_of way.meaning) way.playing r) }
 
 -- where the field fails, its answers are understood up to there alone
 abbrev pub IsUpTo : Bool → Meaning → Type 0

@@ -23,8 +23,10 @@ use Rattle.group_world.specs.declared.came.Came as code
 use Rattle.group_world.specs.declared.came.Came.TheVariants as came
 use Rattle.group_world.specs.declared.came.Unplayed.{Unplayed}
 use Rattle.group_world.specs.declared.came.Unplayed.TheVariants as unplayed
+use Rattle.group_world.specs.declared.happened.Happened.{Happened as Telling}
 use Rattle.group_world.specs.declared.world.World.{World}
 use Rattle.group_world.specs.Given.{Given, contents_in}
+use Rattle.group_world.specs.Happened.{TellsEvent}
 use Rattle.group_world.specs.Meanings.{Meaning, Until, MessageOf, StateOf, model_of, batch_of, AreNamed, Fits, SaysInput, SaysMessage}
 use Rattle.group_world.specs.Standing.{IsWorld, Sees}
 
@@ -167,12 +169,12 @@ EndsAt w map map' given e stop =
     (m : Meaning) (p : Playing (MessageOf m) (StateOf m)) → SeesPlaying m w map given p → IsNamedBy m p e
     → (q : Playing (MessageOf m) (StateOf m)) × (played (model_of m) p e ≡ Off [] stop q) × Fits m map' [] q.stands
 
--- one event was played, and wrote one text on every understanding; or it ended the text
-abbrev pub Plays : {T : Type 0} → World → World → Option Map → Option Map → List Given → Event → List ℕ → List ℕ → Result T Unplayed → Type 0
-Plays w w' map map' given e before after (Ok done) =
+-- one event was played, and wrote one text and told what came of it on every understanding; or it ended the text
+abbrev pub Plays : World → World → Option Map → Option Map → List Given → Event → List ℕ → List ℕ → Result Telling Unplayed → Type 0
+Plays w w' map map' given e before after (Ok told) =
     (text : List ℕ) × (after ≡ before ++ text)
     × ((m : Meaning) (later : List Given) (p : Playing (MessageOf m) (StateOf m)) → SeesPlaying m w map (given ++ later) p → IsNamedBy m p e
-    → (q : Playing (MessageOf m) (StateOf m)) × (played (model_of m) p e ≡ On text q) × SeesPlaying m w' map' later q × (q.records ≡ p.records))
+    → (q : Playing (MessageOf m) (StateOf m)) × (played (model_of m) p e ≡ On text q) × SeesPlaying m w' map' later q × (q.records ≡ p.records) × TellsEvent m e told p.group q.group)
 Plays w w' map map' given e before after (Err (unplayed.Limit which)) = (after ≡ before) × EndsAt w map map' given e (AtLimit (quantity_of which))
 Plays w w' map map' given e before after (Err (unplayed.Frame at)) = (after ≡ before) × EndsAt w map map' given e (AtFrame at)
 Plays w w' map map' given e before after (Err unplayed.FieldFault) =

@@ -1,5 +1,5 @@
 -- What a group over a field wrote of a whole source.
-use Rattle.std.specs.Prelude.{ℕ, ◌≡◌, ◌≤◌, ◌<◌, ◌++◌, ◌⊎◌, false, List, [], length, take, Option, Some, None, IfSome, IsSome}
+use Rattle.std.specs.Prelude.{IsSomeAnd, ℕ, ◌≡◌, ◌≤◌, ◌<◌, ◌++◌, ◌⊎◌, false, List, [], length, take, Option, Some, None, IfSome, IsSome}
 use Rattle.std.specs.List.{AllByRecursion}
 use Rattle.std.specs.Io.KnownBytes.{Appends, Consumes, IsAtEnd}
 use Rattle.record_cutting.specs.Lines.{Record, records_of, whole_records}
@@ -9,6 +9,7 @@ use Rattle.record_stream.specs.declared.source.Ended.TheVariants as ended
 use Rattle.schedule_model.specs.Quantities as quantity
 use Rattle.schedule_model.specs.Quantities.{Quantity}
 use Rattle.schedule_model.specs.Written.{Stop, AtRecord, AtLimit, AtFrame, AtField, Written, last_of, no_closing, stop_of, text_with}
+use Rattle.replica_model.specs.Keyed.{value_at}
 use Rattle.replica_model.specs.Linked.{sha_link}
 use Rattle.group_model.specs.Field.{Field}
 use Rattle.group_model.specs.Group.{nothing_started}
@@ -17,7 +18,7 @@ use Rattle.trace_model.specs.Contents.{contents}
 use Rattle.trace_model.specs.Trace.{Playing, closing, playing, records_played}
 use Rattle.trace_text.specs.declared.stopped.Quantity.{Quantity as Counted}
 use Rattle.trace_text.specs.declared.stopped.Quantity.TheVariants as counted
-use Rattle.enclave_host.specs.Fields.{Map}
+use Rattle.enclave_host.specs.Fields.{Gains, Map}
 use Rattle.group_world.specs.declared.halt.Halt.{Halt}
 use Rattle.group_world.specs.declared.halt.Halt.TheVariants as halt
 use Rattle.group_world.specs.declared.schedule.Played.{Played}
@@ -25,7 +26,8 @@ use Rattle.group_world.specs.declared.schedule.Played.TheVariants as end
 use Rattle.group_world.specs.declared.schedule.Which.{Which}
 use Rattle.group_world.specs.declared.schedule.Which.TheVariants as which
 use Rattle.group_world.specs.Failing.{Failing, failing}
-use Rattle.group_world.specs.Meanings.{IsNamedCall, batch_of}
+use Rattle.group_world.specs.Given.{Given, contents_in}
+use Rattle.group_world.specs.Meanings.{IsNamedCall, StandsAt, batch_of}
 
 -- ---- how it ended, in code and in the model
 
@@ -154,13 +156,14 @@ any f = Unit {0}
 abbrev pub OverEnclaves : List ℕ → Option (List ℕ) → Option (List ℕ) → Option (List ℕ) → Played → Type 0
 OverEnclaves all left old new result = RunsOver (enclaves sha_link) no_enclaves IsWithoutCollision any all left old new result
 
--- the same trace, of which the ask after the first n was not answered: it ends with the lines of the events before
-abbrev pub FailedOver : List ℕ → Option (List ℕ) → Option (List ℕ) → Type 0
-FailedOver all old new =
-    (n : ℕ)
-    × (let f : Failing Enclaves = record { inner = no_enclaves; left = n; failed = false } in
-    IsNamedOver (failing (enclaves sha_link)) f (λ s. IsWithoutCollision s.inner) any (records_of all)
-    → Appends old new (trace_of (failing (enclaves sha_link)) f (λ s. IsWithoutCollision s.inner) any (records_of all)))
+-- The same trace over enclaves that answer as many asks as the field did, and not the next: the records come to that ask,
+-- and the trace ends with the lines of the events before the one that asks it. Where the field tells its answers, they are
+-- the contents among those.
+abbrev pub FailedOver : (told told' : Option (List (List ℕ))) → List ℕ → Option (List ℕ) → Option (List ℕ) → Type 0
+FailedOver told told' all old new =
+    (given : List Given) × Gains told told' (contents_in given)
+    × (let f : Failing Enclaves = record { inner = no_enclaves; left = length given; failed = false } in
+    EndsAs (failing (enclaves sha_link)) f (λ s. IsWithoutCollision s.inner) any (Some AtField) all old new)
 
 -- from the contents that the field gave, where they are told
 abbrev pub OverContents : Option (List (List ℕ)) → Option (List (List ℕ)) → List ℕ → Option (List ℕ) → Option (List ℕ) → Option (List ℕ) → Played → Type 0
@@ -172,3 +175,14 @@ OverContents told told' all left old new result =
 pub record DecidedOver (map : Option Map) (told told' : Option (List (List ℕ))) (all : List ℕ) (result : Played) : Type 0 where
   pub enclaves_decide : IsSome map → Decides (enclaves sha_link) no_enclaves IsWithoutCollision any all result
   pub contents_decide : IfSome told (λ was. (given : List (List ℕ)) × (told' ≡ Some (was ++ given)) × Decides (contents batch_of) given any (λ later. later ≡ []) all result)
+
+-- the model's enclaves after records
+abbrev pub enclaves_after : List Record → Enclaves
+enclaves_after rs = (last_of (plays (enclaves sha_link) no_enclaves IsWithoutCollision any rs)).group.field
+
+-- Who runs in a field that tells it, after all records: each replica that the model's group runs, in a place that stands for
+-- its enclave there, and nobody else.
+abbrev pub RunsAfter : List ℕ → Option Map → Type 0
+RunsAfter all map =
+    IsNamedOver (enclaves sha_link) no_enclaves IsWithoutCollision any (records_of all)
+    → IsSomeAnd map (λ now. (id : ℕ) → StandsAt id (now id) (value_at (enclaves_after (records_of all)).running id))

@@ -10,6 +10,7 @@ ghost use Rattle.group_world.specs.Standing.{IsNew, Runs};
 
 use crate::came::{Came, Unplayed};
 use crate::clients::Clients;
+use crate::happened::Happened;
 use crate::lines::write_lines;
 use crate::post::Post;
 use crate::world::World;
@@ -39,7 +40,7 @@ impl World {
         }
     }
 
-    /// Plays one event, and appends its lines.
+    /// Plays one event, appends its lines, and tells what came of it.
     ///
     /// `Limit` comes where the event would pass a limit of the run, or has passed one; `Frame` where the field answered by what
     /// is no batch; `FieldFault` where the field failed. After an error `out` is as before, and the world is of no use.
@@ -49,7 +50,7 @@ impl World {
         what: &Event,
         field: &mut F,
         out: &mut Vec<u8>,
-    ) -> Result<(), Unplayed>
+    ) -> Result<Happened, Unplayed>
         requires playable { IsPlayable self.old.begun what.now }
         // No earlier event has passed a limit.
         requires within { passed_in self.old ≡ None }
@@ -63,8 +64,8 @@ impl World {
         if let Some(limit) = self.would_pass(what) {
             return Err(Unplayed::Limit(limit));
         }
-        let first_message = self.post.count() + 1;
-        let first_answer = self.answers.len() as u64 + 1;
+        let first_message = self.messages() + 1;
+        let first_answer = self.answers() + 1;
         let number = self.events + 1;
         self.events = number;
         let came = match self.act(alloc, what, field) {
@@ -75,7 +76,7 @@ impl World {
             return Err(Unplayed::Limit(limit));
         }
         match write_lines(number, what, &came, first_message, first_answer, out) {
-            Ok(()) => Ok(()),
+            Ok(()) => Ok(Happened::new(alloc, came, first_answer)),
             Err(Memory) => Err(Unplayed::Memory),
         }
     }

@@ -11,7 +11,7 @@ use values::{Cause, Memory};
 
 /// Why a schedule is not played to its end, where neither memory nor a fault is the reason.
 #[derive(Clone, Copy, Debug, PartialEq, Eq)]
-pub(crate) enum Halt {
+pub enum Halt {
     /// The record of this number, from 1, means nothing for this cause, at this field; 0 is the record as a whole.
     Record {
         number: u64,
@@ -44,8 +44,8 @@ fn write_halt(why: Halt, lines: &mut Vec<u8>) -> Result<(), Memory>
     Ok(written?)
 }
 
-/// Says why playing ends, and ends it.
-pub(crate) fn stop_for(why: Halt, lines: &mut Vec<u8>) -> Result<(), Stop<Halt>>
+/// Says why playing ends, and ends it: with the last line, or for want of memory without it.
+pub fn stop_for(why: Halt, lines: &mut Vec<u8>) -> Result<(), Stop<Halt>>
     ensures { Halts why lines.old.items lines.new.items result }
 {
     write_halt(why, lines)?;

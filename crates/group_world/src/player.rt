@@ -1,5 +1,5 @@
 //! A group plays the records of a schedule over a field of its own.
-ghost use Rattle.std.specs.Prelude.{◌≡◌, ◌∷◌, ◌+◌, ◌<◌, ◌^◌, [], false, List, Ok, Some, OnOk};
+ghost use Rattle.std.specs.Prelude.{◌≡◌, ◌∷◌, ◌+◌, ◌<◌, ◌^◌, [], false, List, None, Ok, Some, OnOk};
 ghost use Rattle.byte_streams.specs.Causes.{HasCauseAt};
 ghost use Rattle.record_cutting.specs.Lines.{record_of};
 ghost use Rattle.schedule_model.specs.Records.{event_of};
@@ -8,7 +8,9 @@ ghost use Rattle.enclave_host.specs.Fields.{Gains};
 ghost use Rattle.group_world.specs.Given.{Given, contents_in};
 ghost use Rattle.group_world.specs.Openings.{answers_gained, answers_history, nothing_from, spent_from, unstopped_from};
 ghost use Rattle.group_world.specs.Playable.{IsPlayable};
-ghost use Rattle.group_world.specs.Playing.{CanPlay, Takes, Way, Writes, all_of, course, one_event};
+ghost use Rattle.group_world.specs.Plays.{passed_in};
+ghost use Rattle.group_world.specs.Standing.{IsNew};
+ghost use Rattle.group_world.specs.Playing.{CanPlay, Takes, Way, Writes, all_of, course, next_way, one_event};
 
 use crate::came::Unplayed;
 use crate::halt::{Halt, stop_for};
@@ -20,7 +22,8 @@ use std::alloc::Global;
 use values::{Event, Memory};
 
 /// A group that plays records, with the field where its replicas run.
-pub(crate) struct GroupPlayer<F: Field> {
+#[derive(Drop)]
+pub struct GroupPlayer<F: Field> {
     pub alloc: Global,
     pub world: World,
     pub field: F,
@@ -29,6 +32,21 @@ pub(crate) struct GroupPlayer<F: Field> {
 }
 
 impl<F: Field> GroupPlayer<F> {
+    /// A group of which nothing has started, over this field, before the first record.
+    pub fn new(alloc: Global, field: F) -> GroupPlayer<F>
+        ensures new { IsNew result.world }
+        ensures within { passed_in result.world ≡ None }
+        ensures field { result.field ≡ field }
+        ensures records { result.records ≡ 0 }
+    {
+        GroupPlayer {
+            alloc,
+            world: World::new(alloc),
+            field,
+            records: 0,
+        }
+    }
+
     /// The reading of the next record: it says whether the group has begun.
     fn schedule(&self) -> Schedule
         ensures { (result.driven ≡ false) × ((result.begun ≡ self.now.world.begun) × (result.records ≡ 0)) }
@@ -47,7 +65,7 @@ impl<F: Field> GroupPlayer<F> {
         self.schedule().event(fields)
     }
 
-    /// Plays one event.
+    /// Plays one event, which is no settle and no `again`.
     pub fn play_event(&mut self, event: &Event, lines: &mut Vec<u8>) -> Result<(), Stop<Halt>>
         requires can { CanPlay self.old.world (F.map self.old.field) }
         requires playable { IsPlayable self.old.world.begun event.now }
@@ -57,14 +75,15 @@ impl<F: Field> GroupPlayer<F> {
         ensures cause { HasCauseAt Stop.Failed (F.faults self.old.field) (F.faults self.new.field) result }
         ensures records { self.new.records ≡ self.old.records }
     {
-        match self.world.event(self.alloc, event, &mut self.field, lines) {
-            Ok(()) => Ok(()),
-            Err(e) => match e {
-                Unplayed::Memory => Err(Stop::Memory),
-                Unplayed::FieldFault => Err(Stop::Failed),
-                Unplayed::Limit(which) => stop_for(Halt::Limit(which), lines),
-                Unplayed::Frame(at) => stop_for(Halt::Frame(at), lines),
-            },
+        let unplayed = match self.world.event(self.alloc, event, &mut self.field, lines) {
+            Ok(_) => return Ok(()),
+            Err(e) => e,
+        };
+        match unplayed {
+            Unplayed::Memory => Err(Stop::Memory),
+            Unplayed::FieldFault => Err(Stop::Failed),
+            Unplayed::Limit(which) => stop_for(Halt::Limit(which), lines),
+            Unplayed::Frame(at) => stop_for(Halt::Frame(at), lines),
         }
     }
 
@@ -119,6 +138,8 @@ impl<F: Field> Player for GroupPlayer<F> {
     ghost Way = { Way };
 
     ghost course = { course };
+
+    ghost step = { next_way };
 
     ghost takes = { λ p. Takes p.world p.records (F.map p.field) };
 

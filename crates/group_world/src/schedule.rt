@@ -3,9 +3,8 @@ ghost use Rattle.std.specs.Prelude.{ℕ, ◌≡◌, ◌≢◌, ◌≤◌, List, 
 ghost use Rattle.byte_streams.specs.Causes.{Rose};
 ghost use Rattle.record_cutting.specs.Lines.{records_of};
 ghost use Rattle.record_stream.specs.Ends.{limit};
-ghost use Rattle.schedule_model.specs.Written.{stop_of};
 ghost use Rattle.group_world.specs.Runs as spec;
-ghost use Rattle.group_world.specs.Runs.{DecidedOver, FailedOver, OverContents, OverEnclaves};
+ghost use Rattle.group_world.specs.Runs.{DecidedOver, FailedOver, OverContents, OverEnclaves, RunsAfter};
 
 use crate::halt::Halt;
 use crate::player::GroupPlayer;
@@ -121,9 +120,11 @@ pub fn play<S: Source, K: Sink, F: Field>(
     // Over a field that tells who runs, the trace over the model's enclaves,
     ensures trace { IfSome (S.left source.old) (λ all. IsSome (F.map field)
         → OverEnclaves all (S.left source.new) (K.taken sink.old) (K.taken sink.new) result.0) }
-    // or, where the field failed, exactly the lines of the events before the one in which it did.
+    // or, where the field failed in an ask of the trace, exactly the lines of the events before the one that asked it.
     ensures failed { result.0 ≡ Played.FieldFault → IfSome (S.left source.old) (λ all. IsSome (F.map field)
-        → FailedOver all (K.taken sink.old) (K.taken sink.new)) }
+        → FailedOver (F.answers field) (F.answers result.1) all (K.taken sink.old) (K.taken sink.new)) }
+    // After all records the replicas of the model's group run in that field, and nobody else does.
+    ensures replicas { result.0 ≡ Played.Done → IfSome (S.left source.old) (λ all. IsSome (F.map field) → RunsAfter all (F.map result.1)) }
     // Over a field that tells its answers, the trace from the contents that it gave, all of which it takes.
     ensures contents { IfSome (S.left source.old) (λ all.
         OverContents (F.answers field) (F.answers result.1) all (S.left source.new) (K.taken sink.old) (K.taken sink.new) result.0) }

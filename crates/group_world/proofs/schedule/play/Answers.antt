@@ -1,9 +1,7 @@
-use Rattle.std.proofs.Common.{sym, subst, ◌∙◌, ◌≡◌, ◌≢◌, ◌≤◌, IfSome, length}
+use Rattle.std.proofs.Common.{sym, subst, ◌∙◌, IfSome}
 use Rattle.std.specs.Prelude.{IsSome}
-use Rattle.record_stream.specs.Ends.{limit}
-use Rattle.group_world.specs.declared.schedule.Played.TheVariants as end
-use Rattle.group_world.specs.Runs.{DecidedOver, OverContents, OverEnclaves}
-use Rattle.group_world.proofs.Running.{field_by, idle_runs, over_contents, over_decided, over_enclaves, over_failed, read_by, under, write_by}
+use Rattle.group_world.specs.Runs.{OverContents, OverEnclaves}
+use Rattle.group_world.proofs.Running.{field_by, idle_runs, over_contents, over_decided, over_enclaves, over_failed, read_by, under, write_by, done_by, over_replicas}
 use Rattle.group_world.proofs.schedule.play.Goals as goal
 
 pub play_source-ended-requires-clause-live : goal.play_source-ended-requires-clause-live
@@ -45,3 +43,9 @@ returns-clause-decided g c =
     (λ is. writes (c.play_source-ended.ensures.write_cause (write_by c.play_source-ended.result (sym c.played_by.ensures ∙ is))))
     (λ is. asks (c.play_source-ended.ensures.own_cause (field_by c.play_source-ended.result (sym c.played_by.ensures ∙ is)))))
     (over_decided _ _ _ _ c.play_source-ended.new.player c.new.result (g.F.Field.map c.args.field) (g.F.Field.answers c.args.field) (g.F.Field.answers c.play_source-ended.new.player.field) c.new.ensures.new (λ given gained. gained) (λ fails given way taken. taken) _ _ _ _ c.play_source-ended.result c.play_source-ended.ensures.ends c.requires c.played_by.result c.played_by.ensures)
+
+pub returns-clause-replicas : goal.returns-clause-replicas
+returns-clause-replicas g c is =
+    over_replicas _ _ _ _ c.play_source-ended.new.player c.new.result (g.F.Field.map c.args.field) (g.F.Field.answers c.args.field) (g.F.Field.answers c.play_source-ended.new.player.field) c.new.ensures.new (λ given gained. gained)
+    (λ fails given way taken. taken) _ _ _ _ c.play_source-ended.result c.play_source-ended.ensures.ends c.requires (done_by c.play_source-ended.result (sym c.played_by.ensures ∙ is)) c.play_source-ended.new.player.world
+    c.play_source-ended.new.player.records (g.F.Field.map c.play_source-ended.new.player.field) (λ way taken. taken)

@@ -1,3 +1,4 @@
+use Rattle.std.proofs.Common.{false}
 use Rattle.record_cutting.specs.Lines.{record_of}
 use Rattle.group_world.proofs.Pieces.{event_writes}
 use Rattle.group_world.proofs.Recorded.{plays_alone, reads_playable}
@@ -9,7 +10,7 @@ play_event-requires g c =
     let begun = c.args.self.now.world.begun in
     record {
       can = c.requires.can;
-      playable = plays_alone begun e (reads_playable (record_of c.args.fields.now) e begun c.requires.says) c.in_default.not-Settle;
+      playable = plays_alone begun e (reads_playable false (record_of c.args.fields.now) e begun c.requires.says) c.in_default.not-Settle;
     }
 
 pub returns-in-Settle-clause-writes : goal.returns-in-Settle-clause-writes
@@ -19,7 +20,7 @@ pub returns-in_default : goal.returns-in_default
 returns-in_default g c =
     let e = c.args.event.now in
     let begun = c.args.self.now.world.begun in
-    let playable = plays_alone begun e (reads_playable (record_of c.args.fields.now) e begun c.requires.says) c.in_default.not-Settle in
+    let playable = plays_alone begun e (reads_playable false (record_of c.args.fields.now) e begun c.requires.says) c.in_default.not-Settle in
     let (given, gained, writes) = c.play_event.ensures.writes in
     record {
       writes = (

@@ -4,7 +4,9 @@ use Rattle.group_world.proofs.Pieces.{failed_writes, halted_writes, memory_write
 use Rattle.group_world.proofs.player.GroupPlayer.play_event.Goals as goal
 
 pub returns-in-Ok-clause-writes : goal.returns-in-Ok-clause-writes
-returns-in-Ok-clause-writes g c = c.in-Ok.ensures.plays
+returns-in-Ok-clause-writes g c =
+    let (given, gained, plays) = c.in-Ok.ensures.plays in
+    (given, gained, (plays.0, plays.1, λ m later p sees named. let (q, it, seen, same, told) = plays.2 m later p sees named in (q, it, seen, same)))
 
 pub returns-in-Memory-clause-writes : goal.returns-in-Memory-clause-writes
 returns-in-Memory-clause-writes g c =

@@ -1,4 +1,4 @@
-use Rattle.std.proofs.Common.{arith, refl, sym, ap, subst, ◌∙◌, ◌≡◌, ◌-◌, ◌+◌, ◌++◌, ℕ, suc, List, [], Err, append-nil, append_assoc}
+use Rattle.std.proofs.Common.{arith, refl, sym, ap, subst, ◌∙◌, ◌≡◌, ◌-◌, ◌+◌, ◌++◌, ℕ, suc, [], Err, append-nil, append_assoc}
 use Rattle.std.proofs.lemmas.Result.{err_from_is_err_and}
 use Rattle.group_world.specs.Openings.{gains_none, gains_then}
 use Rattle.group_world.proofs.Pieces.{Delivered, deliveries_done, deliveries_end, delivery_stops, none_delivered, one_delivered}

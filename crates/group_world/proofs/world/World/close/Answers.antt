@@ -4,4 +4,4 @@ use Rattle.group_world.proofs.world.World.close.Goals as goal
 
 pub returns-clause-ok : goal.returns-clause-ok
 returns-clause-ok c =
-    closing_text c.args.self.now c.finish.result.items c.args.out.now.items c.is_within.result c.count.result c.len.result (search rules) c.is_within.ensures c.count.ensures (search rules)
+    closing_text c.args.self.now c.finish.result.items c.args.out.now.items c.is_within.result c.messages.result c.answers.result (search rules) c.is_within.ensures.bears c.messages.ensures.count c.answers.ensures.count
