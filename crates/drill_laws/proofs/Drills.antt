@@ -28,7 +28,7 @@ use Rattle.group_model.specs.Group.{Answered, bears, is_client, core_of, put_cor
 use Rattle.group_model.specs.Run.{Enclaves, World, empty_world}
 use Rattle.trace_model.specs.Summary.{halts}
 use Rattle.trace_model.specs.Trace.{Playing, playing}
-use Rattle.drill_laws.specs.Laws.{DrillIsPlayed, DrillComesTo, HearsNameTheNewest, rounds}
+use Rattle.drill_laws.specs.Laws.{DrillIsPlayed, DrillComesTo, HearsNameTheNewest, AllHoldLogs, NobodyLearns, rounds}
 use Rattle.drill_laws.proofs.Leads.{IsPlain}
 use Rattle.drill_laws.proofs.Plays.{Plays, none_stops, ends_so, each_newest}
 use Rattle.drill_laws.proofs.Exchanges.{Calm}
@@ -316,6 +316,7 @@ module _ (link : Link) where
     pub messages_are : length t.group.messages ≡ messages
     pub answers_are : length t.group.answers ≡ answers
     pub no_halt : halts t.group ≡ 0
+    pub all_hold : AllHoldLogs t.group
     pub none_rolled : t.group.rolled ≡ []
 
   all_wished : (seed n i m : ℕ) → i + n ≡ m → m ≤ 2001 → (p : Path) (e : LogEntry) → e.term ≡ 1 → IsPlain (p ++ e ∷ []) → (events messages : ℕ) (answers : List Answered) (cores : List (ClientId × Core))
@@ -328,6 +329,7 @@ module _ (link : Link) where
         messages_are = at.sent_is ∙ omega (arith, y_is);
         answers_are = (λ i. length (at.answers_are i)) ∙ omega (arith, z_is);
         no_halt = at.no_halt;
+        all_hold = at.all_hold;
         none_rolled = at.none_rolled;
       }
   all_wished seed (suc n) i m is within p e own plain events messages answers cores s pl at a newest x y z x_is y_is z_is =
@@ -382,3 +384,6 @@ comes_to link seed clients some few =
 
 pub newest : HearsNameTheNewest
 newest link seed clients some few = each_newest link (drill_events seed clients) (playing empty_world) _ (drill_plays link seed clients few)
+
+pub none_learns : NobodyLearns
+none_learns link seed clients some few = (ends_so link (drill_events seed clients) (playing empty_world) _ (drill_plays link seed clients few)).all_hold

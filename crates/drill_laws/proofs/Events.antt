@@ -24,6 +24,7 @@ use Rattle.group_model.specs.Happens.{Came, Passed, Replied, Happening, Happened
 use Rattle.group_model.specs.Run.{Enclaves, World, enclaves}
 use Rattle.trace_model.specs.Limits.{passed_before, passed_after}
 use Rattle.trace_model.specs.Trace.{Playing, played, settled}
+use Rattle.drill_laws.specs.Laws.{HoldsALog}
 use Rattle.drill_laws.proofs.Setting.{five}
 use Rattle.drill_laws.proofs.Follows.{Did}
 use Rattle.drill_laws.proofs.Queue.{first_number, first_is, first_waits, popped}
@@ -40,7 +41,7 @@ module _ (link : Link) (p : Playing Message Enclaves) (P : Playing Message Encla
     module _ (ev : Event) (q : List (Sent Message)) (a : At p.group q enc events messages answers cores) (before : passed_before p.group ev ≡ None)
         (r : ℕ) (runs : is_in five r ≡ true) (input : HostInput Message)
         (tells : happening.acts (enclaves link) ev (noted link p ev q enc events messages answers cores a) ≡ happening.tells (enclaves link) r input (noted link p ev q enc events messages answers cores a))
-        (e : Enclave) (here : value_at enc r ≡ Some e) (c : Call) (is : called link e input ≡ calls e c)
+        (e : Enclave) (here : value_at enc r ≡ Some e) (holds : HoldsALog e.replica.role) (c : Call) (is : called link e input ≡ calls e c)
         (now : Replica) (sent : List (ℕ × Message)) (outs : List (ClientId × ℕ × Answer)) (d : Did c now sent outs)
         (room : Room (messages + length sent) (answers ++ map (answered_by r) outs) cores) where
       abbrev w : World
@@ -50,10 +51,10 @@ module _ (link : Link) (p : Playing Message Enclaves) (P : Playing Message Encla
       w_at = noted_at link p ev q enc events messages answers cores a
 
       abbrev g : World
-      g = after_call link w q enc (events + 1) messages answers cores w_at r input e here c is
+      g = after_call link w q enc (events + 1) messages answers cores w_at r input e here holds c is
 
       g_at : At g (q ++ map (sent_by r) sent) (put enc r (record e { replica = now })) (events + 1) (messages + length sent) (answers ++ map (answered_by r) outs) cores
-      g_at = call_at link w q enc (events + 1) messages answers cores w_at r input e here c is now sent outs d
+      g_at = call_at link w q enc (events + 1) messages answers cores w_at r input e here holds c is now sent outs d
 
       pub call_goes : ((t : Playing Message Enclaves) → At t.group (q ++ map (sent_by r) sent) (put enc r (record e { replica = now })) (events + 1) (messages + length sent) (answers ++ map (answered_by r) outs) cores → P t)
           → Goes (played (enclaves link) p ev) P
@@ -63,14 +64,14 @@ module _ (link : Link) (p : Playing Message Enclaves) (P : Playing Message Encla
           ∙ tells
           ∙ (λ i. happening.unless (enclaves link) (not (is_in (a.five_run i) r)) (NotRunning r) w (happening.calls (enclaves link) r input))
           ∙ (λ i. happening.unless (enclaves link) (not (runs i)) (NotRunning r) w (happening.calls (enclaves link) r input))
-          ∙ call_is link w q enc (events + 1) messages answers cores w_at r input e here c is)
+          ∙ call_is link w q enc (events + 1) messages answers cores w_at r input e here holds c is)
           before
           (room_after link g (q ++ map (sent_by r) sent) (put enc r (record e { replica = now })) (events + 1) (messages + length sent) (answers ++ map (answered_by r) outs) cores g_at room)
           (next (record p { group = g; stands = g.field }) g_at)
 
     -- the first message that waits is delivered
     module _ (m : Sent Message) (ms : List (Sent Message)) (a : At p.group (m ∷ ms) enc events messages answers cores) (runs : is_in five m.to ≡ true)
-        (e : Enclave) (here : value_at enc m.to ≡ Some e) (c : Call) (is : called link e (Peer m.from m.to m.message) ≡ calls e c)
+        (e : Enclave) (here : value_at enc m.to ≡ Some e) (holds : HoldsALog e.replica.role) (c : Call) (is : called link e (Peer m.from m.to m.message) ≡ calls e c)
         (now : Replica) (sent : List (ℕ × Message)) (outs : List (ClientId × ℕ × Answer)) (d : Did c now sent outs)
         (room : Room (messages + length sent) (answers ++ map (answered_by m.to) outs) cores) where
       abbrev k : ℕ
@@ -101,14 +102,15 @@ module _ (link : Link) (p : Playing Message Enclaves) (P : Playing Message Encla
             cores_are = b.cores_are;
             run_is = b.run_is;
             no_halt = b.no_halt;
+            all_hold = b.all_hold;
             none_rolled = b.none_rolled;
           }
 
       abbrev delivered_world : World
-      delivered_world = after_call link handed ms enc (events + 1) messages answers cores handed_at m.to (Peer m.from m.to m.message) e here c is
+      delivered_world = after_call link handed ms enc (events + 1) messages answers cores handed_at m.to (Peer m.from m.to m.message) e here holds c is
 
       delivered_at : At delivered_world (ms ++ map (sent_by m.to) sent) (put enc m.to (record e { replica = now })) (events + 1) (messages + length sent) (answers ++ map (answered_by m.to) outs) cores
-      delivered_at = call_at link handed ms enc (events + 1) messages answers cores handed_at m.to (Peer m.from m.to m.message) e here c is now sent outs d
+      delivered_at = call_at link handed ms enc (events + 1) messages answers cores handed_at m.to (Peer m.from m.to m.message) e here holds c is now sent outs d
 
       first_is' : numbered p.group.messages k ≡ Some m
       first_is' = first_is p.group.waiting p.group.messages m ms a.mail
@@ -126,7 +128,7 @@ module _ (link : Link) (p : Playing Message Enclaves) (P : Playing Message Encla
           ∙ (λ i. happening.unless (enclaves link) (is_in (a.none_lost i) k) (Lost k) noted_there (λ x. happening.running (enclaves link) m.to x (happening.hands (enclaves link) k m)))
           ∙ (λ i. happening.unless (enclaves link) (not (is_in (a.five_run i) m.to)) (NotRunning m.to) noted_there (happening.hands (enclaves link) k m))
           ∙ (λ i. happening.unless (enclaves link) (not (runs i)) (NotRunning m.to) noted_there (happening.hands (enclaves link) k m))
-          ∙ call_is link handed ms enc (events + 1) messages answers cores handed_at m.to (Peer m.from m.to m.message) e here c is
+          ∙ call_is link handed ms enc (events + 1) messages answers cores handed_at m.to (Peer m.from m.to m.message) e here holds c is
 
       pub delivery_goes : (n : ℕ)
           → ((t : Playing Message Enclaves) → At t.group (ms ++ map (sent_by m.to) sent) (put enc m.to (record e { replica = now })) (events + 1) (messages + length sent) (answers ++ map (answered_by m.to) outs) cores → Goes (settled (enclaves link) n t) P)
@@ -167,6 +169,7 @@ module _ (link : Link) (p : Playing Message Enclaves) (P : Playing Message Encla
             cores_are = λ i. put_core (b.cores_are i) c core;
             run_is = b.run_is;
             no_halt = b.no_halt;
+            all_hold = b.all_hold;
             none_rolled = b.none_rolled;
           }
 
@@ -209,6 +212,7 @@ module _ (link : Link) (p : Playing Message Enclaves) (P : Playing Message Encla
             cores_are = λ i. put_core (b.cores_are i) c after;
             run_is = b.run_is;
             no_halt = b.no_halt;
+            all_hold = b.all_hold;
             none_rolled = b.none_rolled;
           }
 

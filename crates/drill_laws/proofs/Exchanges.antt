@@ -123,7 +123,7 @@ module _ (link : Link) (p : Path) (no_members : IsPlain p) (events messages : �
             ((λ i. happening.says (enclaves link) c 1 (happening.said_by (enclaves link) (core_of (calm_at.cores_are i) c)) (noted link pl (event.Say c 1) [] (agreed p) events messages answers cores calm_at))
             ∙ (λ i. happening.says (enclaves link) c 1 (happening.said_by (enclaves link) (core_is i)) (noted link pl (event.Say c 1) [] (agreed p) events messages answers cores calm_at))
             ∙ (λ i. happening.says (enclaves link) c 1 (said_is i) (noted link pl (event.Say c 1) [] (agreed p) events messages answers cores calm_at)))
-            (enclave_of 1 (calm link p no_members c number request)) refl
+            (enclave_of 1 (calm link p no_members c number request)) refl tt
             (step_of link (calm link p no_members c number request) (step.Client c number (canonical_request request))) refl
             (leads link q (length p) (ask_long link p no_members c number request) (ask_plain link p no_members c number request) (ask_own link p no_members c number request) (asked_for link p no_members c number request) false false (all false) (all false))
             (four_of (offer (whole link p) (ask link p no_members c number request ∷ []) (length p) (length p))) []

@@ -42,6 +42,7 @@ restated w q q' enc ev ev' ms ms' ans ans' cores queue events messages answers a
       cores_are = a.cores_are;
       run_is = a.run_is;
       no_halt = a.no_halt;
+      all_hold = a.all_hold;
       none_rolled = a.none_rolled;
     }
 
@@ -126,7 +127,7 @@ module _ (link : Link) (known : ℕ) (p : Path) (e : LogEntry) (own : e.term ≡
           delivery_goes link pl P (runs c) (E0 + c.steps) (M0 + c.sent) (answered c.committed) cores (omega (arith, few, steps))
           (mail_of (Entry Two)) (map mail_of rest) st refl
           (enclave_at 2 (follower 2 known p (length p) (length p)))
-          (λ i. Some (enclave_at 2 (follower 2 (cond (first.0 i) 1 known) (cond (first.0 i) q p) (A (last.0 i)) (A (last.1 i)))))
+          (λ i. Some (enclave_at 2 (follower 2 (cond (first.0 i) 1 known) (cond (first.0 i) q p) (A (last.0 i)) (A (last.1 i))))) tt
           (step_of link (follower 2 known p (length p) (length p)) (step.Peer 1 (offer (whole link p) (e ∷ []) (length p) (length p)))) refl
           (follower 2 1 q (length p) (length p)) ((1, acceptance (whole link q) (length p)) ∷ []) [] (hears_entry link 2 known p e)
           (omega (arith, room.0, sent), few_same _ c.committed (append-nil (answered c.committed)), room.2) n
@@ -141,7 +142,7 @@ module _ (link : Link) (known : ℕ) (p : Path) (e : LogEntry) (own : e.term ≡
           delivery_goes link pl P (runs c) (E0 + c.steps) (M0 + c.sent) (answered c.committed) cores (omega (arith, few, steps))
           (mail_of (Raised Two x y)) (map mail_of rest) st refl
           (enclave_at 2 (follower 2 1 q (A pr) (A cm)))
-          (λ i. Some (enclave_at 2 (follower 2 (cond (fit i) 1 known) (cond (fit i) q p) (A pr) (A cm))))
+          (λ i. Some (enclave_at 2 (follower 2 (cond (fit i) 1 known) (cond (fit i) q p) (A pr) (A cm)))) tt
           (step_of link (follower 2 1 q (A pr) (A cm)) (step.Peer 1 (offer (whole link q) [] (A x) (A y)))) refl
           (follower 2 1 q (A (pr || x)) (A (cm || (y && x)))) ((1, acceptance (whole link q) (A (pr || x))) ∷ []) [] (hears_more link 2 1 q (length p) long pr cm x y)
           (omega (arith, room.0, sent), few_same _ c.committed (append-nil (answered c.committed)), room.2) n
@@ -159,7 +160,7 @@ module _ (link : Link) (known : ℕ) (p : Path) (e : LogEntry) (own : e.term ≡
           let rose : Bool = (not c.promised && pr) || (not c.committed && cm) in
           delivery_goes link pl P (runs c) (E0 + c.steps) (M0 + c.sent) (answered c.committed) cores (omega (arith, few, steps))
           (mail_of (Taken Two x)) (map mail_of rest) st refl
-          (enclave_at 1 (leads link q (length p) long no_members own_term o c.promised c.committed c.marks c.promises)) refl
+          (enclave_at 1 (leads link q (length p) long no_members own_term o c.promised c.committed c.marks c.promises)) refl tt
           (step_of link (leads link q (length p) long no_members own_term o c.promised c.committed c.marks c.promises) (step.Peer 2 (acceptance (whole link q) (A x)))) refl
           (leads link q (length p) long no_members own_term o pr cm m r) (cond rose (four_of (offer (whole link q) [] (A pr) (A cm))) []) (cond c.committed [] (cond k (outcomes q o) []))
           (hears_two link q (length p) long no_members own_term o c.promised c.committed c.marks c.promises x)
@@ -177,7 +178,7 @@ module _ (link : Link) (known : ℕ) (p : Path) (e : LogEntry) (own : e.term ≡
           delivery_goes link pl P (runs c) (E0 + c.steps) (M0 + c.sent) (answered c.committed) cores (omega (arith, few, steps))
           (mail_of (Entry Three)) (map mail_of rest) st refl
           (enclave_at 3 (follower 3 known p (length p) (length p)))
-          (λ i. Some (enclave_at 3 (follower 3 (cond (first.0 i) 1 known) (cond (first.0 i) q p) (A (last.0 i)) (A (last.1 i)))))
+          (λ i. Some (enclave_at 3 (follower 3 (cond (first.0 i) 1 known) (cond (first.0 i) q p) (A (last.0 i)) (A (last.1 i))))) tt
           (step_of link (follower 3 known p (length p) (length p)) (step.Peer 1 (offer (whole link p) (e ∷ []) (length p) (length p)))) refl
           (follower 3 1 q (length p) (length p)) ((1, acceptance (whole link q) (length p)) ∷ []) [] (hears_entry link 3 known p e)
           (omega (arith, room.0, sent), few_same _ c.committed (append-nil (answered c.committed)), room.2) n
@@ -192,7 +193,7 @@ module _ (link : Link) (known : ℕ) (p : Path) (e : LogEntry) (own : e.term ≡
           delivery_goes link pl P (runs c) (E0 + c.steps) (M0 + c.sent) (answered c.committed) cores (omega (arith, few, steps))
           (mail_of (Raised Three x y)) (map mail_of rest) st refl
           (enclave_at 3 (follower 3 1 q (A pr) (A cm)))
-          (λ i. Some (enclave_at 3 (follower 3 (cond (fit i) 1 known) (cond (fit i) q p) (A pr) (A cm))))
+          (λ i. Some (enclave_at 3 (follower 3 (cond (fit i) 1 known) (cond (fit i) q p) (A pr) (A cm)))) tt
           (step_of link (follower 3 1 q (A pr) (A cm)) (step.Peer 1 (offer (whole link q) [] (A x) (A y)))) refl
           (follower 3 1 q (A (pr || x)) (A (cm || (y && x)))) ((1, acceptance (whole link q) (A (pr || x))) ∷ []) [] (hears_more link 3 1 q (length p) long pr cm x y)
           (omega (arith, room.0, sent), few_same _ c.committed (append-nil (answered c.committed)), room.2) n
@@ -210,7 +211,7 @@ module _ (link : Link) (known : ℕ) (p : Path) (e : LogEntry) (own : e.term ≡
           let rose : Bool = (not c.promised && pr) || (not c.committed && cm) in
           delivery_goes link pl P (runs c) (E0 + c.steps) (M0 + c.sent) (answered c.committed) cores (omega (arith, few, steps))
           (mail_of (Taken Three x)) (map mail_of rest) st refl
-          (enclave_at 1 (leads link q (length p) long no_members own_term o c.promised c.committed c.marks c.promises)) refl
+          (enclave_at 1 (leads link q (length p) long no_members own_term o c.promised c.committed c.marks c.promises)) refl tt
           (step_of link (leads link q (length p) long no_members own_term o c.promised c.committed c.marks c.promises) (step.Peer 3 (acceptance (whole link q) (A x)))) refl
           (leads link q (length p) long no_members own_term o pr cm m r) (cond rose (four_of (offer (whole link q) [] (A pr) (A cm))) []) (cond c.committed [] (cond k (outcomes q o) []))
           (hears_three link q (length p) long no_members own_term o c.promised c.committed c.marks c.promises x)
@@ -228,7 +229,7 @@ module _ (link : Link) (known : ℕ) (p : Path) (e : LogEntry) (own : e.term ≡
           delivery_goes link pl P (runs c) (E0 + c.steps) (M0 + c.sent) (answered c.committed) cores (omega (arith, few, steps))
           (mail_of (Entry Four)) (map mail_of rest) st refl
           (enclave_at 4 (follower 4 known p (length p) (length p)))
-          (λ i. Some (enclave_at 4 (follower 4 (cond (first.0 i) 1 known) (cond (first.0 i) q p) (A (last.0 i)) (A (last.1 i)))))
+          (λ i. Some (enclave_at 4 (follower 4 (cond (first.0 i) 1 known) (cond (first.0 i) q p) (A (last.0 i)) (A (last.1 i))))) tt
           (step_of link (follower 4 known p (length p) (length p)) (step.Peer 1 (offer (whole link p) (e ∷ []) (length p) (length p)))) refl
           (follower 4 1 q (length p) (length p)) ((1, acceptance (whole link q) (length p)) ∷ []) [] (hears_entry link 4 known p e)
           (omega (arith, room.0, sent), few_same _ c.committed (append-nil (answered c.committed)), room.2) n
@@ -243,7 +244,7 @@ module _ (link : Link) (known : ℕ) (p : Path) (e : LogEntry) (own : e.term ≡
           delivery_goes link pl P (runs c) (E0 + c.steps) (M0 + c.sent) (answered c.committed) cores (omega (arith, few, steps))
           (mail_of (Raised Four x y)) (map mail_of rest) st refl
           (enclave_at 4 (follower 4 1 q (A pr) (A cm)))
-          (λ i. Some (enclave_at 4 (follower 4 (cond (fit i) 1 known) (cond (fit i) q p) (A pr) (A cm))))
+          (λ i. Some (enclave_at 4 (follower 4 (cond (fit i) 1 known) (cond (fit i) q p) (A pr) (A cm)))) tt
           (step_of link (follower 4 1 q (A pr) (A cm)) (step.Peer 1 (offer (whole link q) [] (A x) (A y)))) refl
           (follower 4 1 q (A (pr || x)) (A (cm || (y && x)))) ((1, acceptance (whole link q) (A (pr || x))) ∷ []) [] (hears_more link 4 1 q (length p) long pr cm x y)
           (omega (arith, room.0, sent), few_same _ c.committed (append-nil (answered c.committed)), room.2) n
@@ -261,7 +262,7 @@ module _ (link : Link) (known : ℕ) (p : Path) (e : LogEntry) (own : e.term ≡
           let rose : Bool = (not c.promised && pr) || (not c.committed && cm) in
           delivery_goes link pl P (runs c) (E0 + c.steps) (M0 + c.sent) (answered c.committed) cores (omega (arith, few, steps))
           (mail_of (Taken Four x)) (map mail_of rest) st refl
-          (enclave_at 1 (leads link q (length p) long no_members own_term o c.promised c.committed c.marks c.promises)) refl
+          (enclave_at 1 (leads link q (length p) long no_members own_term o c.promised c.committed c.marks c.promises)) refl tt
           (step_of link (leads link q (length p) long no_members own_term o c.promised c.committed c.marks c.promises) (step.Peer 4 (acceptance (whole link q) (A x)))) refl
           (leads link q (length p) long no_members own_term o pr cm m r) (cond rose (four_of (offer (whole link q) [] (A pr) (A cm))) []) (cond c.committed [] (cond k (outcomes q o) []))
           (hears_four link q (length p) long no_members own_term o c.promised c.committed c.marks c.promises x)
@@ -279,7 +280,7 @@ module _ (link : Link) (known : ℕ) (p : Path) (e : LogEntry) (own : e.term ≡
           delivery_goes link pl P (runs c) (E0 + c.steps) (M0 + c.sent) (answered c.committed) cores (omega (arith, few, steps))
           (mail_of (Entry Five)) (map mail_of rest) st refl
           (enclave_at 5 (follower 5 known p (length p) (length p)))
-          (λ i. Some (enclave_at 5 (follower 5 (cond (first.0 i) 1 known) (cond (first.0 i) q p) (A (last.0 i)) (A (last.1 i)))))
+          (λ i. Some (enclave_at 5 (follower 5 (cond (first.0 i) 1 known) (cond (first.0 i) q p) (A (last.0 i)) (A (last.1 i))))) tt
           (step_of link (follower 5 known p (length p) (length p)) (step.Peer 1 (offer (whole link p) (e ∷ []) (length p) (length p)))) refl
           (follower 5 1 q (length p) (length p)) ((1, acceptance (whole link q) (length p)) ∷ []) [] (hears_entry link 5 known p e)
           (omega (arith, room.0, sent), few_same _ c.committed (append-nil (answered c.committed)), room.2) n
@@ -294,7 +295,7 @@ module _ (link : Link) (known : ℕ) (p : Path) (e : LogEntry) (own : e.term ≡
           delivery_goes link pl P (runs c) (E0 + c.steps) (M0 + c.sent) (answered c.committed) cores (omega (arith, few, steps))
           (mail_of (Raised Five x y)) (map mail_of rest) st refl
           (enclave_at 5 (follower 5 1 q (A pr) (A cm)))
-          (λ i. Some (enclave_at 5 (follower 5 (cond (fit i) 1 known) (cond (fit i) q p) (A pr) (A cm))))
+          (λ i. Some (enclave_at 5 (follower 5 (cond (fit i) 1 known) (cond (fit i) q p) (A pr) (A cm)))) tt
           (step_of link (follower 5 1 q (A pr) (A cm)) (step.Peer 1 (offer (whole link q) [] (A x) (A y)))) refl
           (follower 5 1 q (A (pr || x)) (A (cm || (y && x)))) ((1, acceptance (whole link q) (A (pr || x))) ∷ []) [] (hears_more link 5 1 q (length p) long pr cm x y)
           (omega (arith, room.0, sent), few_same _ c.committed (append-nil (answered c.committed)), room.2) n
@@ -312,7 +313,7 @@ module _ (link : Link) (known : ℕ) (p : Path) (e : LogEntry) (own : e.term ≡
           let rose : Bool = (not c.promised && pr) || (not c.committed && cm) in
           delivery_goes link pl P (runs c) (E0 + c.steps) (M0 + c.sent) (answered c.committed) cores (omega (arith, few, steps))
           (mail_of (Taken Five x)) (map mail_of rest) st refl
-          (enclave_at 1 (leads link q (length p) long no_members own_term o c.promised c.committed c.marks c.promises)) refl
+          (enclave_at 1 (leads link q (length p) long no_members own_term o c.promised c.committed c.marks c.promises)) refl tt
           (step_of link (leads link q (length p) long no_members own_term o c.promised c.committed c.marks c.promises) (step.Peer 5 (acceptance (whole link q) (A x)))) refl
           (leads link q (length p) long no_members own_term o pr cm m r) (cond rose (four_of (offer (whole link q) [] (A pr) (A cm))) []) (cond c.committed [] (cond k (outcomes q o) []))
           (hears_five link q (length p) long no_members own_term o c.promised c.committed c.marks c.promises x)

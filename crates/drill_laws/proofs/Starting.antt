@@ -64,6 +64,7 @@ module _ (link : Link) where
         cores_are = refl;
         run_is = refl;
         no_halt = refl;
+        all_hold = (tt, (tt, (tt, (tt, (tt, (tt, (tt, (tt, (tt, (tt, (tt, (tt, (tt, (tt, tt))))))))))))));
         none_rolled = refl;
       }
 
@@ -111,7 +112,7 @@ module _ (link : Link) (p : Path) (e : LogEntry) (own : e.term ≡ 1) (no_member
     call_goes link pl (λ u. Plays link u (event.Settle 8 ∷ rest) Q) (agreed q) events messages answers cores (omega (arith, few_events))
         (event.Tick 1) [] calm_at (room_before link pl.group (event.Tick 1) refl (omega (arith, few_events, calm_at.past_is))) 1 refl
         Tick refl
-        (enclave_of 1 (leads link q (length p) (long link 1 p e own no_members None) no_members (own_term link 1 p e own no_members None) None true true (all true) (all true))) refl
+        (enclave_of 1 (leads link q (length p) (long link 1 p e own no_members None) no_members (own_term link 1 p e own no_members None) None true true (all true) (all true))) refl tt
         (step_of link (leads link q (length p) (long link 1 p e own no_members None) no_members (own_term link 1 p e own no_members None) None true true (all true) (all true)) step.Tick) refl
         (leads link q (length p) (long link 1 p e own no_members None) no_members (own_term link 1 p e own no_members None) None true true (all true) (all true))
         (four_of (offer (whole link q) [] (length q) (length q))) []

@@ -24,6 +24,7 @@ use Rattle.group_model.specs.Run.{Recorded, Enclaves, World, moves, call_enclave
 use Rattle.trace_model.specs.Limits.{passed_before, passed_after, starts_one}
 use Rattle.trace_model.specs.Summary.{halts}
 use Rattle.trace_model.specs.Trace.{Playing, happened_text, within_limits, happened, tried, played}
+use Rattle.drill_laws.specs.Laws.{HoldsALog, AllHoldLogs}
 use Rattle.drill_laws.proofs.Setting.{five}
 use Rattle.drill_laws.proofs.Follows.{Did}
 use Rattle.drill_laws.proofs.Queue.{Queued, queued_more}
@@ -55,6 +56,7 @@ pub record At (w : World) (queue : List (Sent Message)) (enclaves : List (ℕ ×
   pub cores_are : w.cores ≡ cores
   pub run_is : w.field.running ≡ enclaves
   pub no_halt : halts w ≡ 0
+  pub all_hold : AllHoldLogs w
   pub none_rolled : w.rolled ≡ []
 
 abbrev pub Room : ℕ → List Answered → List (ClientId × Core) → Type 0
@@ -91,7 +93,7 @@ module _ (link : Link) where
 
   -- ---- a call
   module _ (g : World) (q : List (Sent Message)) (enc : List (ℕ × Enclave)) (events messages : ℕ) (answers : List Answered) (cores : List (ClientId × Core)) (a : At g q enc events messages answers cores)
-      (r : ℕ) (input : HostInput Message) (e : Enclave) (here : value_at enc r ≡ Some e) (c : Call) (is : called link e input ≡ calls e c) where
+      (r : ℕ) (input : HostInput Message) (e : Enclave) (here : value_at enc r ≡ Some e) (holds : HoldsALog e.replica.role) (c : Call) (is : called link e input ≡ calls e c) where
     -- the world after it
     abbrev pub after_call : World
     after_call = keeps g r c.batch c.sent (moves g.field r e.replica (Some input) (calls e c))
@@ -120,6 +122,7 @@ module _ (link : Link) where
           cores_are = a.cores_are;
           run_is = λ i. put (a.run_is i) r (record e { replica = d.state i });
           no_halt = (λ i. fold (λ (n : ℕ) (x : Recorded). n + cond (is_some x.call.batch.halt) 1 0) (0 + cond (is_some (d.halt i)) 1 0) g.field.history) ∙ a.no_halt;
+          all_hold = (holds, a.all_hold);
           none_rolled = a.none_rolled;
         }
 
@@ -145,6 +148,7 @@ module _ (link : Link) where
           cores_are = a.cores_are;
           run_is = a.run_is;
           no_halt = a.no_halt;
+          all_hold = a.all_hold;
           none_rolled = a.none_rolled;
         }
 

@@ -1,13 +1,15 @@
 -- What holds of the drills.
 use Rattle.std.specs.Prelude.{◌≡◌, ℕ, zero, suc, ◌+◌, ◌-◌, ◌*◌, ◌%◌, ◌==◌, ◌≤◌, if◌then◌else◌, List, [], ◌∷◌, length, None, IsTrue, IsSomeAnd}
+use Rattle.std.specs.List.{AllByRecursion}
 use Rattle.values.specs.declared.event.Event.{Event}
 use Rattle.values.specs.declared.event.Event.TheVariants as event
 use Rattle.replica_model.specs.Path.{Link}
 use Rattle.replica_model.specs.Message.{Message}
+use Rattle.replica_model.specs.Replica.{Role, Learner}
 use Rattle.schedule_model.specs.Drill.{word, drill_events}
 use Rattle.schedule_model.specs.Written.{last_of, stop_of}
 use Rattle.group_model.specs.Group.{numbered, is_within}
-use Rattle.group_model.specs.Run.{Enclaves, World, enclaves, empty_world}
+use Rattle.group_model.specs.Run.{Recorded, Enclaves, World, enclaves, empty_world}
 use Rattle.trace_model.specs.Trace.{Playing, playing, expanded}
 use Rattle.trace_model.specs.Summary.{drill_played, halts}
 
@@ -39,6 +41,18 @@ pub record ComesTo (seed clients : ℕ) (w : World) : Type 0 where
 
 abbrev pub DrillComesTo : Type 0
 DrillComesTo = OfEachDrill (λ link seed clients. ComesTo seed clients (last_of (drill_played link seed clients)).group)
+
+-- a replica holds a log once it is no learner that still takes a table
+abbrev pub HoldsALog : Role → Type 0
+HoldsALog (Learner taking) = ⊥
+HoldsALog _ = Unit {0}
+
+-- no learner is ever called: whoever was called held a log before
+abbrev pub AllHoldLogs : World → Type 0
+AllHoldLogs w = AllByRecursion (λ (r : Recorded). HoldsALog r.before.role) w.field.history
+
+abbrev pub NobodyLearns : Type 0
+NobodyLearns = OfEachDrill (λ link seed clients. AllHoldLogs (last_of (drill_played link seed clients)).group)
 
 -- where an event is a hear, the answer that it names is the newest one, as answers are counted from 1, and one to its client
 abbrev pub NamesTheNewest : World → Event → Type 0

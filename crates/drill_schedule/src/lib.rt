@@ -4,7 +4,9 @@
 mod client;
 mod drill;
 mod events;
+mod parts;
 #[cfg(test)]
 mod tests;
 
 pub use drill::drill_events;
+pub use parts::Parts;

@@ -1,0 +1,5 @@
+mod Counted
+mod Names
+mod Steps
+mod Whole
+mod Written
