@@ -1,6 +1,11 @@
-//! The program: the top call over standard input and output, or over two connections.
+//! The program: the top call over standard input and output, or over two connections, and over children that serve the
+//! replicas of a group.
 #![tactic(auto)]
 
+ghost use Rattle.std.specs.Prelude.{ℕ, ◌≡◌, IfSome, None};
+
+use enclave_host::Field;
+use replica_server::LoopField;
 use std::alloc::Global;
 use std::env::{self, Env};
 use std::io::{self, ErrorKind};
@@ -51,37 +56,63 @@ fn connect<R: Net>(rt: &R, port: u16) -> io::Result<(R::Stream, R::Stream)> {
 }
 
 /// Runs the words without a connection: over a source whose first read fails.
-fn run_unconnected(alloc: Global, words: &[String]) -> Result<Status, Memory> {
+fn run_unconnected<F: Field + Drop>(
+    alloc: Global,
+    words: &[String],
+    field: F,
+) -> Result<Status, Memory>
+    requires { IfSome (F.map field) (λ now. (id : ℕ) → now id ≡ None) }
+{
     let mut failing = Vec::new(alloc);
     failing.push(1)?;
     let mut source = MemSource::new(Vec::new(alloc), 1, failing);
     let mut sink = MemSink::new(alloc, 0, Vec::new(alloc))?;
-    Ok(run(alloc, words, &mut source, &mut sink))
+    let (status, _field) = run(alloc, words, &mut source, &mut sink, field);
+    Ok(status)
 }
 
 /// Runs the words over connections to this port.
-fn run_connected(rt: &(impl Net + AllocGlobal), port: u16, words: &[String]) -> Status {
+fn run_connected<F: Field + Drop>(
+    rt: &(impl Net + AllocGlobal),
+    port: u16,
+    words: &[String],
+    field: F,
+) -> Result<Status, Memory>
+    requires { IfSome (F.map field) (λ now. (id : ℕ) → now id ≡ None) }
+{
     match connect(rt, port) {
         Ok((from, to)) => {
             let mut source = StdSource::new(from);
             let mut sink = StdSink::new(to);
-            run(rt.alloc(), words, &mut source, &mut sink)
+            let (status, _field) = run(rt.alloc(), words, &mut source, &mut sink, field);
+            Ok(status)
         }
-        Err(_) => run_unconnected(rt.alloc(), words).unwrap_or(Status::Memory),
+        Err(_) => run_unconnected(rt.alloc(), words, field),
+    }
+}
+
+/// Runs the words over what they ask for: its streams, and a field whose children run its program. They end with it.
+fn run_words(rt: &HostRuntime, words: &[String]) -> Result<Status, Memory> {
+    let edge = edge_of(rt.alloc(), words)?;
+    let program = match &edge {
+        Edge::Program(path) => path.as_str(),
+        Edge::Standard | Edge::Connect(_) => "",
+    };
+    let field = LoopField::new(rt, rt.alloc(), program)?;
+    match edge {
+        Edge::Connect(port) => run_connected(rt, port, words, field),
+        Edge::Standard | Edge::Program(_) => {
+            let mut source = StdSource::new(rt.stdin());
+            let mut sink = StdSink::new(rt.stdout());
+            let (status, _field) = run(rt.alloc(), words, &mut source, &mut sink, field);
+            Ok(status)
+        }
     }
 }
 
 fn main(rt: HostRuntime) -> ExitCode {
     let status = match words(&rt) {
-        Ok(words) => match edge_of(rt.alloc(), words.as_slice()) {
-            Ok(Edge::Connect(port)) => run_connected(&rt, port, words.as_slice()),
-            Ok(Edge::Standard | Edge::Program(_)) => {
-                let mut source = StdSource::new(rt.stdin());
-                let mut sink = StdSink::new(rt.stdout());
-                run(rt.alloc(), words.as_slice(), &mut source, &mut sink)
-            }
-            Err(Memory) => Status::Memory,
-        },
+        Ok(words) => run_words(&rt, words.as_slice()).unwrap_or(Status::Memory),
         Err(status) => status,
     };
     if status != Status::Done {

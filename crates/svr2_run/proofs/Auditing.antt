@@ -1,5 +1,5 @@
 -- What the audit of a source found, and how the line of it was written.
-use Rattle.std.proofs.Common.{◌≡◌, ◌≢◌, ◌∙◌, ◌⊎◌, inl, inr, ℕ, ◌≤◌, ◌<◌, ◌+◌, List, [], ◌∷◌, ◌++◌, length, take, drop, refl, sym, ap, subst, Option, Some, None, Result, Ok, Err, IfOk, IfSome, OnErr, codes, append_assoc, append-nil, length-append, take-append-drop, arith}
+use Rattle.std.proofs.Common.{◌≡◌, ◌≢◌, ◌∙◌, ◌⊎◌, inl, inr, ℕ, ◌≤◌, ◌+◌, List, [], ◌∷◌, ◌++◌, length, take, drop, refl, sym, ap, subst, Option, Some, None, Result, Ok, Err, IfOk, IfSome, OnErr, codes, append_assoc, append-nil, length-append, take-append-drop, arith}
 use Rattle.std.specs.Io.KnownBytes.{Appends, Consumes, IsAtEnd}
 use Rattle.byte_streams.specs.Streams.{AppendsPrefix}
 use Rattle.record_cutting.specs.Lines.{last_part, whole_lines}
@@ -12,9 +12,10 @@ use Rattle.trace_audit.specs.Stands.{why_of}
 use Rattle.trace_audit.specs.declared.audit.Why as code
 use Rattle.trace_audit.specs.declared.source.Audited.TheVariants as audited
 use Rattle.trace_audit.specs.declared.source.TheConstants.{MAX_TRACE}
-use Rattle.svr2_run.specs.Audits.{AuditsOver, Decides, FailedAfter, Finds, IsRefusal, IsTooLong, IsWholeVerdict, RanOut, WroteLine, status_by, verdict_line}
-use Rattle.svr2_run.specs.declared.command.Status.{Status}
-use Rattle.svr2_run.specs.declared.command.Status.TheVariants as status
+use Rattle.svr2_run.specs.Audits.{AuditsOver, Decides, Finds, IsRefusal, IsWholeVerdict, status_by, verdict_line}
+use Rattle.svr2_run.specs.Texts.{WroteText}
+use Rattle.svr2_run.specs.declared.exit.Status.{Status}
+use Rattle.svr2_run.specs.declared.exit.Status.TheVariants as status
 
 -- ---- the line of a verdict
 
@@ -79,7 +80,7 @@ by_status (Refuses n why) result is = inr is
 
 module _ {T E : Type 0} (items : T → List ℕ) where
   over : (line : Result T E) (all : List ℕ) (left old new : Option (List ℕ)) (v : Verdict) (result : Status) → Finds all left v
-      → IfOk line (λ l. items l ≡ verdict_line v) → IfOk line (λ l. WroteLine old new (items l) (status_by v) result)
+      → IfOk line (λ l. items l ≡ verdict_line v) → IfOk line (λ l. WroteText old new (items l) (status_by v) result)
       → OnErr line ((result ≡ status.Memory) × (new ≡ old)) → AuditsOver all left old new result
   over (Ok l) all left old new v result found is (inl (ended, wrote)) none =
       subst (AuditsOver all left old new) (sym ended) (over_whole all left old new v found (subst (Appends old new) is wrote))
@@ -89,7 +90,7 @@ module _ {T E : Type 0} (items : T → List ℕ) where
       subst (AuditsOver all left old new) (sym ended) (inr (v, found), none)
 
   decides : (line : Result T E) (all : List ℕ) (left old new : Option (List ℕ)) (v : Verdict) (result : Status) (B : Type 0) → Finds all left v
-      → IfOk line (λ l. WroteLine old new (items l) (status_by v) result) → OnErr line ((result ≡ status.Memory) × (new ≡ old))
+      → IfOk line (λ l. WroteText old new (items l) (status_by v) result) → OnErr line ((result ≡ status.Memory) × (new ≡ old))
       → (result ≡ status.WriteFault → B) → (B → ⊥) → result ≢ status.Memory → Decides all result
   decides (Ok l) all left old new v result B found (inl (ended, wrote)) none write never kept = record {
     told = by_status v result ended;
@@ -100,7 +101,7 @@ module _ {T E : Type 0} (items : T → List ℕ) where
 
   pub accepts_over : (line : Result T E) (left left' old new : Option (List ℕ)) (n : ℕ) (result : Status)
       → (taken : List ℕ) × Consumes left left' taken × EndsAfter taken left' (audited.Accepts n)
-      → IfOk line (λ l. items l ≡ verdict_line (Accepts n)) → IfOk line (λ l. WroteLine old new (items l) status.Done result)
+      → IfOk line (λ l. items l ≡ verdict_line (Accepts n)) → IfOk line (λ l. WroteText old new (items l) status.Done result)
       → OnErr line ((result ≡ status.Memory) × (new ≡ old)) → IfSome left (λ all. AuditsOver all left' old new result)
   accepts_over line None left' old new n result ends is wrote none = tt
   accepts_over line (Some all) left' old new n result (taken, c, j) is wrote none =
@@ -108,7 +109,7 @@ module _ {T E : Type 0} (items : T → List ℕ) where
 
   pub refuses_over : (line : Result T E) (left left' old new : Option (List ℕ)) (n : ℕ) (why : code.Why) (result : Status)
       → (taken : List ℕ) × Consumes left left' taken × EndsAfter taken left' (audited.Refuses n why)
-      → IfOk line (λ l. items l ≡ verdict_line (Refuses n (why_of why))) → IfOk line (λ l. WroteLine old new (items l) status.Refused result)
+      → IfOk line (λ l. items l ≡ verdict_line (Refuses n (why_of why))) → IfOk line (λ l. WroteText old new (items l) status.Refused result)
       → OnErr line ((result ≡ status.Memory) × (new ≡ old)) → IfSome left (λ all. AuditsOver all left' old new result)
   refuses_over line None left' old new n why result ends is wrote none = tt
   refuses_over line (Some all) left' old new n why result (taken, c, (ahead, cause)) is wrote none =
@@ -116,7 +117,7 @@ module _ {T E : Type 0} (items : T → List ℕ) where
 
   pub accepts_decides : (line : Result T E) (left left' old new : Option (List ℕ)) (n : ℕ) (result : Status) (A B : Type 0)
       → (taken : List ℕ) × Consumes left left' taken × EndsAfter taken left' (audited.Accepts n)
-      → IfOk line (λ l. WroteLine old new (items l) status.Done result)
+      → IfOk line (λ l. WroteText old new (items l) status.Done result)
       → OnErr line ((result ≡ status.Memory) × (new ≡ old)) → (result ≡ status.WriteFault → B)
       → IfSome left (λ all. length all ≤ MAX_TRACE → (A → ⊥) → (B → ⊥) → result ≢ status.Memory → Decides all result)
   accepts_decides line None left' old new n result A B ends wrote none write = tt
@@ -125,7 +126,7 @@ module _ {T E : Type 0} (items : T → List ℕ) where
 
   pub refuses_decides : (line : Result T E) (left left' old new : Option (List ℕ)) (n : ℕ) (why : code.Why) (result : Status) (A B : Type 0)
       → (taken : List ℕ) × Consumes left left' taken × EndsAfter taken left' (audited.Refuses n why)
-      → IfOk line (λ l. WroteLine old new (items l) status.Refused result)
+      → IfOk line (λ l. WroteText old new (items l) status.Refused result)
       → OnErr line ((result ≡ status.Memory) × (new ≡ old)) → (result ≡ status.WriteFault → B)
       → IfSome left (λ all. length all ≤ MAX_TRACE → (A → ⊥) → (B → ⊥) → result ≢ status.Memory → Decides all result)
   refuses_decides line None left' old new n why result A B ends wrote none write = tt

@@ -1,5 +1,7 @@
 pub mod Unbroken
 pub mod Replays
+mod Groups
+mod Drilling
 pub mod Tables
 pub mod Unread
 pub mod Parses

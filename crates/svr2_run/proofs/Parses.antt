@@ -1,7 +1,7 @@
 -- What a parse of words says.
-use Rattle.std.proofs.Common.{refl, sym, ap, subst, ◌∙◌, ◌≡◌, ◌≢◌, ◌⊎◌, ℕ, List, [], ◌∷◌, map, true, false, Option, Some, None, Result, Ok, Err, IfOk, OnOk, inl, inr, codes}
+use Rattle.std.proofs.Common.{refl, sym, ap, subst, ◌∙◌, ◌≡◌, ◌≢◌, ℕ, List, [], ◌∷◌, map, true, false, Option, Some, None, Result, Ok, Err, IfOk, OnOk, inl, inr, codes}
 use Rattle.std.specs.Prelude.{option_map, option_and_then}
-use Rattle.clap.specs.Words.{App, FailsBy, HasKind, HasMatchesOf, Kinds, Row, fault_of, first_of, first_value, found_of, is_simple, is_simple_and_free, kind_of, matches_of, rows_of}
+use Rattle.clap.specs.Words.{App, HasKind, HasMatchesOf, Kinds, Row, fault_of, first_of, first_value, found_of, is_simple, is_simple_and_free, kind_of, matches_of}
 use Rattle.clap.specs.declared.error.Error.{Error}
 use Rattle.clap.specs.declared.error.kind.ErrorKind.TheVariants.{OutOfMemory}
 use Rattle.clap.specs.declared.parser.matches.ArgMatches.{ArgMatches}
@@ -10,7 +10,6 @@ use Rattle.std.proofs.lemmas.Bool.{cases_Bool}
 use Rattle.std.proofs.lemmas.Slice.Eq.{bytes_eq-Decides}
 use Rattle.std.specs.Prelude.{bytes_eq, slice_get}
 use Rattle.svr2_run.specs.Words.{command_of, if_taken, key_of, limit_of, matched, table_app, table_of, tagged_app, tagged_of}
-use Rattle.svr2_run.specs.declared.words.Command.{Command}
 use Rattle.svr2_run.specs.declared.words.Command.TheVariants.{Play, Tagged}
 use Rattle.svr2_run.specs.declared.words.Play.TheVariants.{Table}
 
@@ -61,6 +60,12 @@ pub option_says : {X : Type 0} (app : App) (words : List (List ℕ)) (id : List 
     → value ≡ first_of id (matches_of app words) → x ≡ f value → x ≡ option_and_then (λ rows. f (first_of id rows)) (matched app words)
 option_says app words id f value x is same says = rw (is, ← same, says) refl
 
+-- the same of two options
+pub options_say : {X : Type 0} (app : App) (words : List (List ℕ)) (a b : List ℕ) (f : Option (List ℕ) → Option (List ℕ) → Option X) (u v : Option (List ℕ)) (x : Option X) → matched app words ≡ Some (matches_of app words)
+    → u ≡ first_of a (matches_of app words) → v ≡ first_of b (matches_of app words) → x ≡ f u v
+    → x ≡ option_and_then (λ rows. f (first_of a rows) (first_of b rows)) (matched app words)
+options_say app words a b f u v x is first second says = rw (is, ← first, ← second, says) refl
+
 -- ---- another word than a command's name
 
 pub differs : (xs ys : List ℕ) → (xs ≡ ys → ⊥) → bytes_eq xs ys ≡ false
@@ -68,10 +73,10 @@ differs xs ys ne = elim (cases_Bool (bytes_eq xs ys)) [ inl y ↦ absurd (ne ((b
 
 -- the word is the name of no command
 abbrev pub IsNoName : List ℕ → Type 0
-IsNoName name = (name ≡ codes "replay" → ⊥) × (name ≡ codes "table" → ⊥) × (name ≡ codes "serve" → ⊥) × (name ≡ codes "tagged" → ⊥) × (name ≡ codes "audit" → ⊥)
+IsNoName name = (name ≡ codes "replay" → ⊥) × (name ≡ codes "table" → ⊥) × (name ≡ codes "serve" → ⊥) × (name ≡ codes "tagged" → ⊥) × (name ≡ codes "audit" → ⊥) × (name ≡ codes "group" → ⊥) × (name ≡ codes "drill" → ⊥)
 
 no_name : (name : List ℕ) (rest : List (List ℕ)) → IsNoName name → None ≡ command_of (name ∷ rest)
-no_name name rest (a, b, s, t, d) = rw (differs name (codes "replay") a, differs name (codes "table") b, differs name (codes "serve") s, differs name (codes "tagged") t, differs name (codes "audit") d) refl
+no_name name rest (a, b, s, t, d, g, l) = rw (differs name (codes "replay") a, differs name (codes "table") b, differs name (codes "serve") s, differs name (codes "tagged") t, differs name (codes "audit") d, differs name (codes "group") g, differs name (codes "drill") l) refl
 
 pub no_command : {X : Type 0} (bytes : X → List ℕ) (words : List X) (x : X) → slice_get words 0 ≡ Some x → IsNoName (bytes x) → None ≡ command_of (map bytes words)
 no_command bytes [] x is none = cc

@@ -10,8 +10,8 @@ use Rattle.replica_server.specs.declared.served.Served.{Served}
 use Rattle.replica_server.specs.declared.served.Served.TheVariants as served
 use Rattle.svr2_run.specs.Run.{status_of, status_played}
 use Rattle.svr2_run.specs.Sessions as sessions
-use Rattle.svr2_run.specs.declared.command.Status.{Status}
-use Rattle.svr2_run.specs.declared.command.Status.TheVariants as status
+use Rattle.svr2_run.specs.declared.exit.Status.{Status}
+use Rattle.svr2_run.specs.declared.exit.Status.TheVariants as status
 
 pub table_refuses : (e : Ended Stopped) (s : Status) → s ≡ status_of e → s ≢ status.Refused
 table_refuses ended.Done s is f = cc (sym is ∙ f)

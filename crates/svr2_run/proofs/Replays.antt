@@ -20,8 +20,8 @@ use Rattle.group_world.specs.declared.schedule.Which.TheVariants as which
 use Rattle.group_world.specs.Runs as world
 use Rattle.group_world.specs.Runs.{DecidedOver, IsNamedOver, IsWithoutCollision, OverEnclaves, any, played_for}
 use Rattle.svr2_run.specs.Run.{CutOff, EndsStopped, Holds, RunsOver, StoppedBy, WroteLines, lines_of, status_by, status_in, status_played, text_of}
-use Rattle.svr2_run.specs.declared.command.Status.{Status}
-use Rattle.svr2_run.specs.declared.command.Status.TheVariants as status
+use Rattle.svr2_run.specs.declared.exit.Status.{Status}
+use Rattle.svr2_run.specs.declared.exit.Status.TheVariants as status
 use Rattle.svr2_run.specs.declared.words.Play.TheVariants.{Replay}
 use Rattle.svr2_run.proofs.Unbroken.{never_at_frame}
 
@@ -88,10 +88,10 @@ module _ (law : PlayedCallsAreNamed) where
   runs_over all left x y end.Memory never cut = cut_off all left x y cut
   runs_over all left x y end.FieldFault never cut = absurd (never refl)
 
-  pub told_replays : (map : Option Map) (left left' x y : Option (List ℕ)) (r : Played) (s : Status) → s ≡ status_played r → IsSome map → (r ≡ end.FieldFault → Rose 0 0)
+  pub told_replays : (map : Option Map) (left left' x y : Option (List ℕ)) (r : Played) (s : Status) → s ≡ status_played r → IsSome map → (r ≢ end.FieldFault)
       → IfSome left (λ all. IsSome map → OverEnclaves all left' x y r) → IfSome left (λ all. RunsOver Replay all left' x y s)
-  told_replays map None left' x y r s is told cause h = tt
-  told_replays map (Some all) left' x y r s is told cause h = rw is (runs_over all left' x y r (λ e. none_rose (cause e)) (h told))
+  told_replays map None left' x y r s is told never h = tt
+  told_replays map (Some all) left' x y r s is told never h = rw is (runs_over all left' x y r never (h told))
 
   -- where the records decide
   status_decided : (o : Option Stop) → status_played (played_for o) ≡ status_by o
@@ -110,6 +110,10 @@ module _ (law : PlayedCallsAreNamed) where
   told_decided map told told' None r s A B C is is_told nc h = tt
   told_decided map told told' (Some all) r s A B C is is_told nc h = λ small none na nb nm.
       is ∙ (ap status_played ((h small (not_memory r s is nm) na nb nc).enclaves_decide is_told (named (records_of all) none)) ∙ status_decided (stop_in sha_link all))
+
+-- how a play ended, where its status is no fault of the field
+pub not_failed : (r : Played) (s : Status) → s ≡ status_played r → s ≢ status.FieldFault → r ≢ end.FieldFault
+not_failed r s is never e = never (is ∙ ap status_played e)
 
 pub never_fails : (r : Played) (s : Status) → s ≡ status_played r → (r ≡ end.FieldFault → Rose 0 0) → s ≢ status.FieldFault
 never_fails end.Done s is never f = cc (sym is ∙ f)

@@ -10,8 +10,8 @@ use Rattle.replica_server.specs.Serving.{ServedOver, answers_to, session_of}
 use Rattle.replica_server.specs.declared.served.Served.{Served}
 use Rattle.replica_server.specs.declared.served.Served.TheVariants as served
 use Rattle.svr2_run.specs.Sessions.{ServesOver, status_of}
-use Rattle.svr2_run.specs.declared.command.Status.{Status}
-use Rattle.svr2_run.specs.declared.command.Status.TheVariants as status
+use Rattle.svr2_run.specs.declared.exit.Status.{Status}
+use Rattle.svr2_run.specs.declared.exit.Status.TheVariants as status
 
 module _ (tagging : Tagging) where
   serves_over : (names : Point → Named) (all : List ℕ) (left x y : Option (List ℕ)) (r : Served) → ServedOver tagging names all left x y r → ServesOver tagging names all left x y (status_of r)

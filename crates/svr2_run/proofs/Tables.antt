@@ -16,8 +16,8 @@ use Rattle.table_model.specs.TableText.{Applied, rows_line, table_played}
 use Rattle.table_command.specs.Course as table
 use Rattle.table_command.specs.Text.{start as empty, stop_of_table}
 use Rattle.svr2_run.specs.Run.{CutOff, EndsStopped, RunsOver, StoppedBy, WroteLines, lines_of, status_in, status_of, table_status_by, table_status_for, text_of}
-use Rattle.svr2_run.specs.declared.command.Status.{Status}
-use Rattle.svr2_run.specs.declared.command.Status.TheVariants as status
+use Rattle.svr2_run.specs.declared.exit.Status.{Status}
+use Rattle.svr2_run.specs.declared.exit.Status.TheVariants as status
 use Rattle.svr2_run.specs.declared.words.Play.TheVariants.{Table}
 use Rattle.svr2_run.proofs.Replays.{none_rose}
 
@@ -80,7 +80,7 @@ module _ (rows : ℕ) where
   Said all left x y e = SaidOn course all left x y e
 
   pub one_ends : (p q : Applied) (left left' x y : Option (List ℕ)) (e : Ended Stopped) → p ≡ empty rows
-      → IfSome left (λ all. PlayedOver none_asked one_way table.course_from p q all left' x y e) → IfSome left (λ all. Said all left' x y e)
+      → IfSome left (λ all. PlayedOver none_asked one_way table.course_from table.after_record p q all left' x y e) → IfSome left (λ all. Said all left' x y e)
   one_ends p q None left' x y e is h = tt
   one_ends p q (Some all) left' x y e is h = subst (λ (s : Applied). SaidOn (table.course_from s) all left' x y e) is (h.ends p refl, h.reason p refl)
 

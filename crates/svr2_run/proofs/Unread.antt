@@ -8,7 +8,7 @@ use Rattle.svr2_run.specs.Run.{CutOff, IsNoFrame, lines_of}
 use Rattle.svr2_run.specs.Words.{play_in}
 use Rattle.svr2_run.specs.declared.words.Command.{Command}
 use Rattle.svr2_run.specs.declared.words.Command.TheVariants as command
-use Rattle.svr2_run.specs.declared.command.Status.TheVariants as status
+use Rattle.svr2_run.specs.declared.exit.Status.TheVariants as status
 use Rattle.svr2_run.specs.declared.words.Play.{Play}
 use Rattle.svr2_run.specs.declared.words.Play.TheVariants.{Replay, Table}
 

@@ -7,8 +7,8 @@ use Rattle.trace_model.specs.Audit.{Accepts, Audits, Refuses, Verdict, Why, Wron
 use Rattle.trace_audit.specs.Ends.{ReadOn}
 use Rattle.trace_audit.specs.Fronts.{IsRefused, IsTaken, IsVerdict}
 use Rattle.trace_audit.specs.declared.source.TheConstants.{MAX_TRACE}
-use Rattle.svr2_run.specs.declared.command.Status.{Status}
-use Rattle.svr2_run.specs.declared.command.Status.TheVariants as status
+use Rattle.svr2_run.specs.declared.exit.Status.{Status}
+use Rattle.svr2_run.specs.declared.exit.Status.TheVariants as status
 
 -- the word of a reason
 abbrev pub reason_word : Why → List ℕ
@@ -92,8 +92,3 @@ status_by (Refuses line why) = status.Refused
 pub record Decides (all : List ℕ) (s : Status) : Type 0 where
   pub told : (s ≡ status.Done) ⊎ (s ≡ status.Refused)
   pub verdict : (v : Verdict) → Audits all v → s ≡ status_by v
-
--- a line was written with this status, or first bytes of it after a write fault
-abbrev pub WroteLine : Option (List ℕ) → Option (List ℕ) → List ℕ → Status → Status → Type 0
-WroteLine old new line s result =
-    ((result ≡ s) × Appends old new line) ⊎ ((result ≡ status.WriteFault) × AppendsPrefix old new line)

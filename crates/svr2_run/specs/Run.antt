@@ -18,8 +18,8 @@ use Rattle.group_world.specs.declared.schedule.Played.{Played}
 use Rattle.group_world.specs.declared.schedule.Played.TheVariants as played
 use Rattle.table_model.specs.TableText.{table_text}
 use Rattle.table_command.specs.Text.{stop_of_table, table_lines, stop_of_whole}
-use Rattle.svr2_run.specs.declared.command.Status.{Status}
-use Rattle.svr2_run.specs.declared.command.Status.TheVariants as status
+use Rattle.svr2_run.specs.declared.exit.Status.{Status}
+use Rattle.svr2_run.specs.declared.exit.Status.TheVariants as status
 use Rattle.svr2_run.specs.declared.words.Play.{Play}
 use Rattle.svr2_run.specs.declared.words.Play.TheVariants.{Replay, Table}
 

@@ -7,8 +7,8 @@ use Rattle.replica_server.specs.Serving.{ServedOver}
 use Rattle.replica_server.specs.declared.served.Served.{Served}
 use Rattle.replica_server.specs.declared.served.Served.TheVariants as served
 use Rattle.replica_server.specs.declared.served.FrameCause.{FrameCause}
-use Rattle.svr2_run.specs.declared.command.Status.{Status}
-use Rattle.svr2_run.specs.declared.command.Status.TheVariants as status
+use Rattle.svr2_run.specs.declared.exit.Status.{Status}
+use Rattle.svr2_run.specs.declared.exit.Status.TheVariants as status
 
 abbrev pub status_of : Served → Status
 status_of served.Done = status.Done

@@ -7,8 +7,9 @@ use Rattle.values.specs.declared.limits.TheConstants.{MOST_ROWS}
 use Rattle.trace_model.specs.Session.{Tagging, untagged, tagged_by}
 use Rattle.link_tags.specs.Hmac.{hmac_of}
 use Rattle.schedule_model.specs.Reading.{number_of, RecordFault}
+use Rattle.drill_laws.specs.Laws.{most_clients}
 use Rattle.svr2_run.specs.declared.words.Command.{Command}
-use Rattle.svr2_run.specs.declared.words.Command.TheVariants.{Audit, Play, Serve, Tagged}
+use Rattle.svr2_run.specs.declared.words.Command.TheVariants.{Audit, Drill, Group, Play, Serve, Tagged}
 use Rattle.svr2_run.specs.declared.words.Play as what
 use Rattle.svr2_run.specs.declared.words.Play.TheVariants.{Replay, Table}
 use Rattle.svr2_run.specs.declared.words.Streams.{Streams}
@@ -27,12 +28,12 @@ if_taken (kind ∷ kinds) rows = None
 abbrev pub matched : App → List (List ℕ) → Option (List Row)
 matched app words = if_taken (fault_of app words) (matches_of app words)
 
--- `replay`, without options
-abbrev pub replay_app : App
-replay_app = new_app (codes "replay")
+-- the command of this name, which has no option
+abbrev pub plain_of : List ℕ → Command → List (List ℕ) → Option Command
+plain_of name command words = option_map (λ rows. command) (matched (new_app name) words)
 
 abbrev pub replay_of : List (List ℕ) → Option Command
-replay_of words = option_map (λ rows. Play Replay) (matched replay_app words)
+replay_of words = plain_of (codes "replay") (Play Replay) words
 
 -- `table`, with the option `rows`
 abbrev pub table_app : App
@@ -84,6 +85,10 @@ group_app = with_option (new_app (codes "group")) (codes "program")
 abbrev pub grouped_by : List (List ℕ) → Option (List ℕ)
 grouped_by words = option_and_then (λ rows. first_of (codes "program") rows) (matched group_app words)
 
+-- the command is the same over any program
+abbrev pub group_of : List (List ℕ) → Option Command
+group_of words = option_map (λ path. Group) (grouped_by words)
+
 -- `tagged`, with the option `key`
 abbrev pub tagged_app : App
 tagged_app = with_option (new_app (codes "tagged")) (codes "key")
@@ -100,12 +105,29 @@ key_of (Some text) = bytes_in (decode_sized text 32)
 abbrev pub tagged_of : List (List ℕ) → Option Command
 tagged_of words = option_map Tagged (option_and_then (λ rows. key_of (first_of (codes "key") rows)) (matched tagged_app words))
 
--- `audit`, without options
-abbrev pub audit_app : App
-audit_app = new_app (codes "audit")
-
 abbrev pub audit_of : List (List ℕ) → Option Command
-audit_of words = option_map (λ rows. Audit) (matched audit_app words)
+audit_of words = plain_of (codes "audit") Audit words
+
+-- `drill`, with the options `seed` and `clients`
+abbrev pub drill_app : App
+drill_app = with_option (with_option (new_app (codes "drill")) (codes "seed")) (codes "clients")
+
+-- the decimal number in a range that an option's value says, where it has one
+abbrev pub number_within : ℕ → ℕ → Option (List ℕ) → Option ℕ
+number_within least most None = None
+number_within least most (Some text) = number_in (number_of text 0 least most)
+
+-- the greatest seed
+abbrev pub most_seed : ℕ
+most_seed = 18446744073709551615
+
+-- the drill that the values of the two options say: a seed of 64 bits, and 1 to 2,000 clients
+abbrev pub drill_by : Option (List ℕ) → Option (List ℕ) → Option Command
+drill_by seed clients =
+    option_and_then (λ s. option_map (Drill s) (number_within 1 most_clients clients)) (number_within 0 most_seed seed)
+
+abbrev pub drill_of : List (List ℕ) → Option Command
+drill_of words = option_and_then (λ rows. drill_by (first_of (codes "seed") rows) (first_of (codes "clients") rows)) (matched drill_app words)
 
 -- the command, by the first word
 abbrev pub command_of : List (List ℕ) → Option Command
@@ -116,14 +138,18 @@ command_of (name ∷ words) =
     else if bytes_eq name (codes "serve") then serve_of (name ∷ words)
     else if bytes_eq name (codes "tagged") then tagged_of (name ∷ words)
     else if bytes_eq name (codes "audit") then audit_of (name ∷ words)
+    else if bytes_eq name (codes "group") then group_of (name ∷ words)
+    else if bytes_eq name (codes "drill") then drill_of (name ∷ words)
     else None
 
 -- what the words play from the source, where they do
 abbrev pub play_in : Option Command → Option what.Play
 play_in (Some (Play play)) = Some play
+play_in (Some Group) = None
 play_in (Some Serve) = None
 play_in (Some (Tagged key)) = None
 play_in (Some Audit) = None
+play_in (Some (Drill seed clients)) = None
 play_in None = None
 
 abbrev pub play_of : List (List ℕ) → Option what.Play
@@ -132,9 +158,11 @@ play_of words = play_in (command_of words)
 -- how the frames of the session are tagged that the words serve, where they do
 abbrev pub tagging_in : Option Command → Option Tagging
 tagging_in (Some (Play play)) = None
+tagging_in (Some Group) = None
 tagging_in (Some Serve) = Some untagged
 tagging_in (Some (Tagged key)) = Some (tagged_by (hmac_of key))
 tagging_in (Some Audit) = None
+tagging_in (Some (Drill seed clients)) = None
 tagging_in None = None
 
 abbrev pub tagging_of : List (List ℕ) → Option Tagging
@@ -147,6 +175,8 @@ HasLimit (Table limit) = (1 ≤ limit) × (limit ≤ MOST_ROWS)
 
 abbrev pub HasLimits : Command → Type 0
 HasLimits (Play play) = HasLimit play
+HasLimits Group = ⊤
 HasLimits Serve = ⊤
 HasLimits (Tagged key) = ⊤
 HasLimits Audit = ⊤
+HasLimits (Drill seed clients) = (1 ≤ clients) × (clients ≤ most_clients)

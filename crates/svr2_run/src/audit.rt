@@ -1,15 +1,16 @@
 //! The audit of a trace: its verdict is one line.
-ghost use Rattle.std.specs.Prelude.{◌≡◌, ◌≢◌, ◌≤◌, IfOk, IfSome, OnErr, length};
+ghost use Rattle.std.specs.Prelude.{◌≡◌, ◌≢◌, ◌≤◌, IfOk, IfSome, length};
 ghost use Rattle.byte_streams.specs.Causes.{Rose};
 ghost use Rattle.trace_audit.specs.Stands.{why_of};
 ghost use Rattle.trace_audit.specs.declared.source.TheConstants.{MAX_TRACE};
 ghost use Rattle.trace_model.specs.Audit.{Accepts, Refuses};
-ghost use Rattle.svr2_run.specs.Audits.{AuditsOver, Decides, WroteLine, reason_word, verdict_line};
+ghost use Rattle.svr2_run.specs.Audits.{AuditsOver, Decides, reason_word, verdict_line};
 
-use crate::command::Status;
+use crate::exit::Status;
+use crate::tell::tell;
 use schedule_text::push_number;
 use std::alloc::Global;
-use svr_base::{Memory, Sink, Source, write_all};
+use svr_base::{Memory, Sink, Source};
 use trace_audit::{Audited, Why, audit_source};
 
 /// The word of a reason.
@@ -46,23 +47,6 @@ fn refuse_line(alloc: Global, number: u64, why: Why) -> Result<Vec<u8>, Memory>
     line.extend_from_slice(reason_word(why).as_bytes())?;
     line.push(b'\n')?;
     Ok(line)
-}
-
-/// Writes the line of a verdict that has this status.
-fn tell<K: Sink>(sink: &mut K, line: Result<Vec<u8>, Memory>, status: Status) -> Status
-    requires { status ≢ Status.WriteFault }
-    ensures wrote { IfOk line (λ line. WroteLine (K.taken sink.old) (K.taken sink.new) line.items status result) }
-    ensures memory { OnErr line ((result ≡ Status.Memory) × (K.taken sink.new ≡ K.taken sink.old)) }
-    ensures cause { result ≡ Status.WriteFault → Rose (K.faults sink.old) (K.faults sink.new) }
-    ensures later { K.faults sink.old ≤ K.faults sink.new }
-{
-    let Ok(line) = line else {
-        return Status::Memory;
-    };
-    match write_all(sink, line.as_slice()) {
-        Ok(()) => status,
-        Err(_) => Status::WriteFault,
-    }
 }
 
 /// Audits the trace that the source holds, and writes the verdict: `accept` and how many lines it has, or `refuse`, the

@@ -1,4 +1,5 @@
 use crate::{Status, run};
+use group_world::LocalField;
 use std::alloc::Global;
 use std::process::Abort;
 use std::test::Fail;
@@ -27,7 +28,8 @@ fn outcome(alloc: Global, row: &Row) -> Result<(Status, Vec<u8>), Memory> {
     let trace = Vec::from_slice(alloc, row.trace.as_bytes())?;
     let mut source = MemSource::new(trace, 100, Vec::new(alloc));
     let mut sink = MemSink::new(alloc, 100, Vec::new(alloc))?;
-    let status = run(alloc, words.as_slice(), &mut source, &mut sink);
+    let field = LocalField::new(alloc);
+    let (status, _field) = run(alloc, words.as_slice(), &mut source, &mut sink, field);
     Ok((status, Vec::from_slice(alloc, sink.taken())?))
 }
 

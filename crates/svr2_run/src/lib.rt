@@ -5,16 +5,27 @@ mod audit;
 #[cfg(test)]
 mod audit_tests;
 mod command;
+mod drill;
+#[cfg(test)]
+mod drill_tests;
 mod edge;
+mod exit;
+mod group;
+#[cfg(test)]
+mod group_tests;
+mod plays;
 #[cfg(test)]
 mod replay_tests;
 #[cfg(test)]
 mod session_tests;
+mod sessions;
 #[cfg(test)]
 mod table_tests;
+mod tell;
 #[cfg(test)]
 mod tests;
 mod words;
 
-pub use command::{Status, run};
+pub use command::run;
 pub use edge::{Edge, edge_of};
+pub use exit::Status;

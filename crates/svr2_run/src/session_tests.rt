@@ -1,4 +1,5 @@
 use crate::{Status, run};
+use group_world::LocalField;
 use std::test::Fail;
 use svr_base::{MemSink, MemSource};
 
@@ -16,7 +17,8 @@ fn one_enclave_is_served(rt: HostRuntime) -> Result<(), Fail> {
     let frames = Vec::from_slice(rt.alloc(), FRAMES)?;
     let mut source = MemSource::new(frames, 3, Vec::new(rt.alloc()));
     let mut sink = MemSink::new(rt.alloc(), 100, Vec::new(rt.alloc()))?;
-    let status = run(rt.alloc(), words.as_slice(), &mut source, &mut sink);
+    let field = LocalField::new(rt.alloc());
+    let (status, _field) = run(rt.alloc(), words.as_slice(), &mut source, &mut sink, field);
     assert_eq!(rt; status, Status::Done);
     assert_eq!(rt; sink.taken(), BATCHES);
     Ok(())

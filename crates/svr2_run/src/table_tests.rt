@@ -1,4 +1,8 @@
+ghost use Rattle.std.specs.Prelude.{ℕ, ◌≡◌, IfSome, None};
+
 use crate::{Status, run};
+use enclave_host::Field;
+use group_world::LocalField;
 use std::alloc::Global;
 use std::test::Fail;
 use svr_base::{MemSink, MemSource, Memory};
@@ -28,6 +32,17 @@ pub(crate) fn command_row(
 }
 
 pub(crate) fn outcome(alloc: Global, row: &Row) -> Result<(Status, Vec<u8>), Memory> {
+    outcome_over(alloc, row, LocalField::new(alloc))
+}
+
+/// What it answers and writes over this field.
+pub(crate) fn outcome_over<F: Field + Drop>(
+    alloc: Global,
+    row: &Row,
+    field: F,
+) -> Result<(Status, Vec<u8>), Memory>
+    requires { IfSome (F.map field) (λ now. (id : ℕ) → now id ≡ None) }
+{
     let mut words = Vec::new(alloc);
     for word in row.words.split(' ') {
         words.push(String::from_str(alloc, word)?)?;
@@ -35,7 +50,7 @@ pub(crate) fn outcome(alloc: Global, row: &Row) -> Result<(Status, Vec<u8>), Mem
     let text = Vec::from_slice(alloc, row.text.as_bytes())?;
     let mut source = MemSource::new(text, 100, Vec::new(alloc));
     let mut sink = MemSink::new(alloc, 10_000, Vec::new(alloc))?;
-    let status = run(alloc, words.as_slice(), &mut source, &mut sink);
+    let (status, _field) = run(alloc, words.as_slice(), &mut source, &mut sink, field);
     Ok((status, Vec::from_slice(alloc, sink.taken())?))
 }
 

@@ -1,6 +1,7 @@
 ghost use Rattle.std.specs.Prelude.{◌<◌};
 
 use crate::{Status, run};
+use group_world::LocalField;
 use std::alloc::{AllocError, Global};
 use std::io;
 use std::io::{ErrorKind, Write};
@@ -45,7 +46,8 @@ fn outcome(alloc: Global, trial: &Trial) -> Result<(Status, Vec<u8>), Memory> {
     let mut source = MemSource::new(text, trial.most, failing);
     let failing = Vec::from_slice(alloc, &[trial.failing_write])?;
     let mut sink = MemSink::new(alloc, 10_000, failing)?;
-    let status = run(alloc, words.as_slice(), &mut source, &mut sink);
+    let field = LocalField::new(alloc);
+    let (status, _field) = run(alloc, words.as_slice(), &mut source, &mut sink, field);
     Ok((status, Vec::from_slice(alloc, sink.taken())?))
 }
 
@@ -153,11 +155,12 @@ fn parts(alloc: Global, failing: u64) -> Result<(Status, Vec<u8>), Memory> {
         calls: 0,
         failing,
     };
-    let status = run(
+    let (status, _field) = run(
         alloc,
         words.as_slice(),
         &mut source,
         &mut StdSink::new(&mut writer),
+        LocalField::new(alloc),
     );
     Ok((status, writer.taken))
 }

@@ -12,6 +12,9 @@ use svr_base::{MOST_ROWS, Memory};
 /// How many rows the table of `table` may hold where its words do not say.
 const USUAL_ROWS: u32 = 10_000;
 
+/// The most clients of a drill.
+const MOST_CLIENTS: u64 = 2_000;
+
 /// What is played from the source.
 #[derive(Clone, Copy, Debug, PartialEq, Eq)]
 pub enum Play {
@@ -27,12 +30,16 @@ pub enum Play {
 pub enum Command {
     /// Plays the records of the source.
     Play(Play),
+    /// Plays a schedule over the field, whatever the path of its program.
+    Group,
     /// Serves one enclave over the frames of the source.
     Serve,
     /// Serves one enclave over frames that are tagged under this key.
     Tagged { key: [u8; 32] },
     /// Audits the trace of the source.
     Audit,
+    /// Plays the drill of this seed and number of clients.
+    Drill { seed: u64, clients: u32 },
 }
 
 /// Where `serve` reads its frames, and writes what it answers.
@@ -71,13 +78,18 @@ fn refusal<T>(kind: ErrorKind) -> Result<Option<T>, Memory>
     }
 }
 
-/// The words of `replay`: it has no option.
-fn read_replay(alloc: Global, words: &[String]) -> Result<Option<Command>, Memory>
-    ensures { IfOk result (λ command. command ≡ spec.replay_of (map string_bytes words.now)) }
+/// The words of a command that has no option.
+fn read_plain(
+    alloc: Global,
+    name: &str,
+    command: Command,
+    words: &[String],
+) -> Result<Option<Command>, Memory>
+    ensures { IfOk result (λ read. read ≡ spec.plain_of name.now command (map string_bytes words.now)) }
 {
-    let replay = clap::Command::new(alloc, "replay");
-    match replay.try_get_matches_from(words) {
-        Ok(_matches) => Ok(Some(Command::Play(Play::Replay))),
+    let plain = clap::Command::new(alloc, name);
+    match plain.try_get_matches_from(words) {
+        Ok(_matches) => Ok(Some(command)),
         Err(error) => refusal(error.kind()),
     }
 }
@@ -141,17 +153,6 @@ pub fn read_group(alloc: Global, words: &[String]) -> Result<Option<String>, Mem
     }
 }
 
-/// The words of `audit`: it has no option.
-fn read_audit(alloc: Global, words: &[String]) -> Result<Option<Command>, Memory>
-    ensures { IfOk result (λ command. command ≡ spec.audit_of (map string_bytes words.now)) }
-{
-    let audit = clap::Command::new(alloc, "audit");
-    match audit.try_get_matches_from(words) {
-        Ok(_matches) => Ok(Some(Command::Audit)),
-        Err(error) => refusal(error.kind()),
-    }
-}
-
 /// The key that an option's value says: 64 hexadecimal digits, in either case.
 fn key_of(key: Option<&str>) -> Option<[u8; 32]>
     ensures { result ≡ spec.key_of (option_map (λ text. text.now) key.entry) }
@@ -180,6 +181,45 @@ fn read_tagged(alloc: Global, words: &[String]) -> Result<Option<Command>, Memor
     }
 }
 
+/// The decimal number in this range that an option's value says, where it has one.
+fn number_within(text: Option<&str>, least: u64, most: u64) -> Option<u64>
+    ensures value { result ≡ spec.number_within least most (option_map (λ text. text.now) text.entry) }
+    ensures least { IfSome result (λ number. least ≤ number) }
+    ensures most { IfSome result (λ number. number ≤ most) }
+{
+    match number_of(text?.as_bytes(), 0, least, most) {
+        Ok(number) => Some(number),
+        Err(_) => None,
+    }
+}
+
+/// The drill that the values of its two options say.
+fn drill_of(seed: Option<&str>, clients: Option<&str>) -> Option<Command>
+    ensures said { result ≡ spec.drill_by (option_map (λ text. text.now) seed.entry) (option_map (λ text. text.now) clients.entry) }
+    ensures limit { IfSome result spec.HasLimits }
+{
+    let seed = number_within(seed, 0, u64::MAX)?;
+    let clients = number_within(clients, 1, MOST_CLIENTS)?;
+    Some(Command::Drill {
+        seed,
+        clients: clients as u32,
+    })
+}
+
+/// The words of `drill`: it needs the options `seed` and `clients`.
+fn read_drill(alloc: Global, words: &[String]) -> Result<Option<Command>, Memory>
+    ensures command { IfOk result (λ command. command ≡ spec.drill_of (map string_bytes words.now)) }
+    ensures limit { IfOk result (λ command. IfSome command spec.HasLimits) }
+{
+    let seed = Arg::new(alloc, "seed").long("seed");
+    let clients = Arg::new(alloc, "clients").long("clients");
+    let drill = clap::Command::new(alloc, "drill").arg(seed)?.arg(clients)?;
+    match drill.try_get_matches_from(words) {
+        Ok(matches) => Ok(drill_of(matches.get_str("seed"), matches.get_str("clients"))),
+        Err(error) => refusal(error.kind()),
+    }
+}
+
 /// The command that the words mean: the first is its name, and those after it are its options.
 pub fn read_words(alloc: Global, words: &[String]) -> Result<Option<Command>, Memory>
     ensures command { IfOk result (λ command. command ≡ spec.command_of (map string_bytes words.now)) }
@@ -189,14 +229,19 @@ pub fn read_words(alloc: Global, words: &[String]) -> Result<Option<Command>, Me
         return Ok(None);
     };
     match name.as_str() {
-        "replay" => read_replay(alloc, words),
+        "replay" => read_plain(alloc, name.as_str(), Command::Play(Play::Replay), words),
         "table" => read_table(alloc, words),
         "serve" => {
             let streams = read_serve(alloc, words)?;
             Ok(streams.map(|_| Command::Serve))
         }
         "tagged" => read_tagged(alloc, words),
-        "audit" => read_audit(alloc, words),
+        "audit" => read_plain(alloc, name.as_str(), Command::Audit, words),
+        "group" => {
+            let program = read_group(alloc, words)?;
+            Ok(program.map(|_| Command::Group))
+        }
+        "drill" => read_drill(alloc, words),
         _ => Ok(None),
     }
 }

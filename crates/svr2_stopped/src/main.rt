@@ -2,6 +2,7 @@
 //! ends, so that the gate compares an exit number other than 0 with what a file brings about.
 #![tactic(auto)]
 
+use group_world::LocalField;
 use std::alloc::Global;
 use std::process::ExitCode;
 use svr_base::{Memory, StdSink, StdSource};
@@ -19,7 +20,9 @@ fn main(rt: HostRuntime) -> ExitCode {
         Ok(words) => {
             let mut source = StdSource::new(rt.stdin());
             let mut sink = StdSink::new(rt.stdout());
-            run(rt.alloc(), words.as_slice(), &mut source, &mut sink)
+            let field = LocalField::new(rt.alloc());
+            let (status, _field) = run(rt.alloc(), words.as_slice(), &mut source, &mut sink, field);
+            status
         }
         Err(Memory) => Status::Memory,
     };

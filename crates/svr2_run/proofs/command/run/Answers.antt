@@ -4,6 +4,8 @@ use Rattle.svr2_run.specs.Words.{command_of, tagging_of}
 use Rattle.svr2_run.specs.declared.words.Command.TheVariants as command
 use Rattle.svr2_run.specs.declared.words.Play.TheVariants.{Replay, Table}
 use Rattle.svr2_run.proofs.Auditing.{unread_audit, unread_decides}
+use Rattle.svr2_run.proofs.Drilling.{one_drill}
+use Rattle.svr2_run.proofs.Groups.{unread_decides as undecided_group, unread_group}
 use Rattle.svr2_run.proofs.Serves.{unread_session}
 use Rattle.svr2_run.proofs.Unread.{command_plays, memory_is_no_frame, unread_run}
 use Rattle.svr2_run.proofs.command.run.Goals as goal
@@ -80,3 +82,32 @@ returns-in-Err-clause-audits g c = λ is. unread_audit _ _
 
 pub returns-in-Err-clause-trace_decides : goal.returns-in-Err-clause-trace_decides
 returns-in-Err-clause-trace_decides g c = λ is. unread_decides _ _ _
+
+pub returns-in-Ok-Some-Group-clause-groups : goal.returns-in-Ok-Some-Group-clause-groups
+returns-in-Ok-Some-Group-clause-groups g c = λ is. c.group.ensures.groups
+
+pub returns-in-Ok-Some-Group-clause-group_decided : goal.returns-in-Ok-Some-Group-clause-group_decided
+returns-in-Ok-Some-Group-clause-group_decided g c = λ is. c.group.ensures.decided
+
+pub returns-in-Ok-Some-Group-clause-group_replays : goal.returns-in-Ok-Some-Group-clause-group_replays
+returns-in-Ok-Some-Group-clause-group_replays g c = λ is. c.group.ensures.replays
+
+pub returns-in-Ok-Some-Group-clause-reports : goal.returns-in-Ok-Some-Group-clause-reports
+returns-in-Ok-Some-Group-clause-reports g c = c.schedule_reports.ensures.played sha_link
+
+pub returns-in-Err-clause-groups : goal.returns-in-Err-clause-groups
+returns-in-Err-clause-groups g c = λ is. unread_group _ _ _ _
+
+pub returns-in-Err-clause-group_decided : goal.returns-in-Err-clause-group_decided
+returns-in-Err-clause-group_decided g c = λ is. undecided_group _ _ _ _ _ _
+
+pub returns-in-Err-clause-group_replays : goal.returns-in-Err-clause-group_replays
+returns-in-Err-clause-group_replays g c = λ is tells never. unread_run (Some Replay) _ _
+
+pub returns-in-Ok-Some-Drill-clause-drills : goal.returns-in-Ok-Some-Drill-clause-drills
+returns-in-Ok-Some-Drill-clause-drills g c =
+    let is : command_of (map string_bytes c.args.words.now) ≡ Some (command.Drill c.in-Ok-Some-Drill.seed c.in-Ok-Some-Drill.clients) = search rules in
+    one_drill _ c.in-Ok-Some-Drill.seed c.in-Ok-Some-Drill.clients _ is c.drill.ensures.drills
+
+pub returns-in-Ok-Some-Drill-clause-reports : goal.returns-in-Ok-Some-Drill-clause-reports
+returns-in-Ok-Some-Drill-clause-reports g c = c.schedule_reports.ensures.played sha_link

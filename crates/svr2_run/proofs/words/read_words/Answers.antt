@@ -10,4 +10,6 @@ returns-in_default-as_str-clause-command c =
       (λ e. c.in_default-as_str.not-serve (c.as_str.ensures.value ∙ e)),
       (λ e. c.in_default-as_str.not-tagged (c.as_str.ensures.value ∙ e)),
       (λ e. c.in_default-as_str.not-audit (c.as_str.ensures.value ∙ e)),
+      (λ e. c.in_default-as_str.not-group (c.as_str.ensures.value ∙ e)),
+      (λ e. c.in_default-as_str.not-drill (c.as_str.ensures.value ∙ e)),
     )

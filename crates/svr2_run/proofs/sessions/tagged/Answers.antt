@@ -2,7 +2,7 @@ use Rattle.trace_model.specs.Session.{tagged_by}
 use Rattle.link_tags.specs.Hmac.{hmac_of}
 use Rattle.svr2_run.proofs.Refusals.{session_refuses}
 use Rattle.svr2_run.proofs.Serves.{told_serves}
-use Rattle.svr2_run.proofs.command.tagged.Goals as goal
+use Rattle.svr2_run.proofs.sessions.tagged.Goals as goal
 
 pub returns-clause-serves : goal.returns-clause-serves
 returns-clause-serves g c =

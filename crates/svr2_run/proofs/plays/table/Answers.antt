@@ -1,6 +1,6 @@
 use Rattle.svr2_run.proofs.Refusals.{table_refuses}
 use Rattle.svr2_run.proofs.Tables.{never_field, never_frame, one_ends, told_decided, told_runs}
-use Rattle.svr2_run.proofs.command.table.Goals as goal
+use Rattle.svr2_run.proofs.plays.table.Goals as goal
 
 pub returns-clause-runs : goal.returns-clause-runs
 returns-clause-runs g c =

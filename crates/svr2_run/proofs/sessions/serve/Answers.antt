@@ -1,7 +1,7 @@
 use Rattle.trace_model.specs.Session.{untagged}
 use Rattle.svr2_run.proofs.Refusals.{session_refuses}
 use Rattle.svr2_run.proofs.Serves.{told_serves}
-use Rattle.svr2_run.proofs.command.serve.Goals as goal
+use Rattle.svr2_run.proofs.sessions.serve.Goals as goal
 
 pub returns-clause-serves : goal.returns-clause-serves
 returns-clause-serves g c =
