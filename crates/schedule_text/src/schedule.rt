@@ -64,6 +64,16 @@ impl Schedule {
         }
     }
 
+    /// No record was read here, and the group has begun before. `again` lets a client's driver go on with what it wants.
+    pub fn driven_in_group(alloc: Global) -> Schedule
+        ensures { result ≡ record in_group { driven = true } }
+    {
+        Schedule {
+            begun: true,
+            ..Schedule::driven(alloc)
+        }
+    }
+
     /// How many records were read, remarks included.
     pub fn records(&self) -> u64
         ensures { result ≡ self.now.records }
