@@ -9,7 +9,7 @@ use trace_text::TraceWriter;
 use values::Hash;
 
 /// What stands before the record in the first event line of a trace.
-const FIRST: usize = "event,1,".len();
+const FIRST: &[u8] = b"event,1,";
 
 /// The drill of seed 7 and 10 clients as a schedule: each of its events as a record.
 fn records(alloc: Global) -> Result<Vec<u8>, Memory> {
@@ -19,7 +19,9 @@ fn records(alloc: Global) -> Result<Vec<u8>, Memory> {
         let mut lines = TraceWriter::behind(Vec::new(alloc));
         lines.event(1, event)?;
         let line = lines.finish(true);
-        records.extend_from_slice(&line.as_slice()[FIRST..])?;
+        if let Some(record) = line.as_slice().strip_prefix(FIRST) {
+            records.extend_from_slice(record)?;
+        }
     }
     Ok(records)
 }
