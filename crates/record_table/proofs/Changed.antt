@@ -1,6 +1,6 @@
 -- A table stays sound where a change is made in it.
 use Rattle.std.proofs.Common.{◌≡◌, ℕ, ◌<◌, inr, List, length, sym, ap, subst, ◌∙◌}
-use Rattle.std.specs.Prelude.{Option, Some, None}
+use Rattle.std.specs.Prelude.{Some, None}
 use Rattle.values.specs.declared.ids.ClientId.{ClientId}
 use Rattle.values.specs.declared.row.Row.{Row}
 use Rattle.values.specs.declared.row.Kept.{Kept}

@@ -1,13 +1,14 @@
 mod Around
 mod Balanced
 mod Nodes
-mod Turned
 mod RowIn
 mod WrittenIn
 mod Walked
 mod Stored
-mod RowBelow
-mod WayTo
+mod Growing
+mod AtNode
+mod PutLeft
+mod PutRight
 mod SlotsLemmas
 mod Changed
 mod Copied

@@ -11,14 +11,13 @@ use Rattle.record_table.specs.declared.node.Node.{Node}
 use Rattle.record_table.specs.declared.node.Node.TheViews.{out-Node}
 use Rattle.values.specs.declared.limits.TheConstants.{MOST_ROWS}
 use Rattle.record_rules.specs.Clients.{client_cmp, IsNumberOf}
-use Rattle.record_rules.specs.Table.{row_of, IsRising}
-use Rattle.record_table.specs.Trees.{Tree, tree_of, tree_under, rows_of, IsBalanced, AreNear, SettlesAt, IsPutIn}
+use Rattle.record_rules.specs.Table.{row_of}
+use Rattle.record_table.specs.Trees.{Tree, tree_of, tree_under, rows_of, IsReady}
 use Rattle.record_table.specs.Trees.Tree.{Fork}
 use Rattle.record_rules.proofs.Clients.{client_cmp-self, flip}
 use Rattle.record_table.proofs.SlotsLemmas.{below_by_number, same_by_number}
 use Rattle.record_table.proofs.Nodes.{tree_out}
-use Rattle.record_table.proofs.Around.{rising_front, rising_back, row_of-below, row_of-middle, row_of-above, length-put_new}
-use Rattle.record_table.proofs.Balanced.{put_left, put_right}
+use Rattle.record_table.proofs.Around.{rising_front, rising_back, row_of-below, row_of-middle, row_of-above}
 
 pub none_is : (o : Option Row) → IsNone o → o ≡ None
 none_is None h = refl
@@ -40,18 +39,11 @@ pub same_number : (a b : ClientId) (m n : ℕ) → IsNumberOf a m → IsNumberOf
 same_number a b m n is_a is_b same =
     subst (λ c. client_cmp a c ≡ Equal) (same_by_number a b n (subst (IsNumberOf a) same is_a) is_b) (client_cmp-self a)
 
--- what a tree must be that a row of a new client is put into
-pub record IsReady (tree : Tree) (client : ClientId) : Type 0 where
-  pub balanced : IsBalanced tree
-  pub rising : IsRising (rows_of tree)
-  pub unknown : IsNone (row_of (rows_of tree) client)
-  pub few : length (rows_of tree) < MOST_ROWS
-
 module _ (l t : Tree) (r row : Row) (s v : ℕ) (ready : IsReady (Fork l r t s v) row.client) where
   many : length (rows_of l) + length (rows_of t) + 1 < MOST_ROWS
   many = let few = ready.few in let a = length-append (rows_of l) (r ∷ rows_of t) in omega arith
 
-  ready_left : client_cmp row.client r.client ≡ Less → IsReady l row.client
+  pub ready_left : client_cmp row.client r.client ≡ Less → IsReady l row.client
   ready_left less = record {
     balanced = ready.balanced.1;
     rising = rising_front (rows_of l) (r ∷ rows_of t) ready.rising;
@@ -59,7 +51,7 @@ module _ (l t : Tree) (r row : Row) (s v : ℕ) (ready : IsReady (Fork l r t s v
     few = let m = many in omega arith;
   }
 
-  ready_right : client_cmp row.client r.client ≡ Greater → IsReady t row.client
+  pub ready_right : client_cmp row.client r.client ≡ Greater → IsReady t row.client
   ready_right more = record {
     balanced = ready.balanced.2;
     rising = rising_back (rows_of l) r (rows_of t) ready.rising;
@@ -77,26 +69,6 @@ module _ (l t : Tree) (r row : Row) (s v : ℕ) (ready : IsReady (Fork l r t s v
         | inr (inr more) ↦ above_by_number row.client r.client m n mine other more
       ]
 
-  few_left : (n : Tree) → client_cmp row.client r.client ≡ Less → IsPutIn l row n → length (rows_of n) + length (rows_of t) < MOST_ROWS
-  few_left n less put =
-      let m = many in
-      let one = ap length put.rows in
-      let more = length-put_new (rows_of l) row (none_is (row_of (rows_of l) row.client) (ready_left less).unknown) in
-      omega arith
-
-  few_right : (n : Tree) → client_cmp row.client r.client ≡ Greater → IsPutIn t row n → length (rows_of l) + length (rows_of n) < MOST_ROWS
-  few_right n more put =
-      let m = many in
-      let one = ap length put.rows in
-      let longer = length-put_new (rows_of t) row (none_is (row_of (rows_of t) row.client) (ready_right more).unknown) in
-      omega arith
-
-  near_left : (n : Tree) → IsPutIn l row n → AreNear 2 n t
-  near_left n put = let a = ready.balanced.0.left_low in let b = ready.balanced.0.right_low in let c = put.low in let d = put.high in (omega arith, omega arith)
-
-  near_right : (n : Tree) → IsPutIn t row n → AreNear 2 l n
-  near_right n put = let a = ready.balanced.0.left_low in let b = ready.balanced.0.right_low in let c = put.low in let d = put.high in (omega arith, omega arith)
-
 -- ---- the same at a node
 
 pub whole_at : (link : Option (Rc Node Global)) (rc : Rc Node Global) (n : Node) → link ≡ Some rc → n ≡ rc.value → tree_under link ≡ tree_of n
@@ -104,9 +76,6 @@ whole_at link rc n is same = ap tree_under is ∙ ap tree_of (sym same)
 
 pub number_at : (n : Node) (r : Row) (at : ℕ) → r ≡ (out-Node n).row.value → IsNumberOf r.client at → IsNumberOf (out-Node n).row.value.client at
 number_at n r at same is = subst (λ (q : Row). IsNumberOf q.client at) same is
-
-pub put_new : (l : Tree) (row : Row) (n m : Node) → n ≡ m → IsPutIn l row (tree_of m) → IsPutIn l row (tree_of n)
-put_new l row n m same put = subst (λ k. IsPutIn l row (tree_of k)) (sym same) put
 
 module _ (n : Node) (row : Row) (number at : ℕ) (mine : IsNumberOf row.client number) (other : IsNumberOf (out-Node n).row.value.client at)
     (ready : IsReady (tree_of n) row.client) where
@@ -130,25 +99,3 @@ module _ (n : Node) (row : Row) (number at : ℕ) (mine : IsNumberOf row.client 
 
   pub node_ready_right : at ≤ number → IsReady right row.client
   node_ready_right h = ready_right left right (out-Node n).row.value row (out-Node n).size (out-Node n).levels opened (more h)
-
-  pub node_few_left : (new : Tree) → number < at → IsPutIn left row new → length (rows_of new) + length (rows_of right) < MOST_ROWS
-  node_few_left new h put = few_left left right (out-Node n).row.value row (out-Node n).size (out-Node n).levels opened new (less h) put
-
-  pub node_few_right : (new : Tree) → at ≤ number → IsPutIn right row new → length (rows_of left) + length (rows_of new) < MOST_ROWS
-  node_few_right new h put = few_right left right (out-Node n).row.value row (out-Node n).size (out-Node n).levels opened new (more h) put
-
-  pub node_near_left : (new : Tree) → IsPutIn left row new → AreNear 2 new right
-  node_near_left new put = near_left left right (out-Node n).row.value row (out-Node n).size (out-Node n).levels opened new put
-
-  pub node_near_right : (new : Tree) → IsPutIn right row new → AreNear 2 left new
-  node_near_right new put = near_right left right (out-Node n).row.value row (out-Node n).size (out-Node n).levels opened new put
-
-  pub node_put_left : (new whole : Tree) → number < at → IsPutIn left row new → SettlesAt new (out-Node n).row.value right whole → IsPutIn (tree_of n) row whole
-  node_put_left new whole h put settles =
-      subst (λ t. IsPutIn t row whole) (sym (tree_out n))
-      (put_left left right new whole (out-Node n).row.value row (out-Node n).size (out-Node n).levels opened.balanced (less h) put settles)
-
-  pub node_put_right : (new whole : Tree) → at ≤ number → IsPutIn right row new → SettlesAt left (out-Node n).row.value new whole → IsPutIn (tree_of n) row whole
-  node_put_right new whole h put settles =
-      subst (λ t. IsPutIn t row whole) (sym (tree_out n))
-      (put_right left right new whole (out-Node n).row.value row (out-Node n).size (out-Node n).levels opened.balanced opened.rising (more h) put settles)

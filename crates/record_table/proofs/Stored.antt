@@ -1,6 +1,6 @@
 -- Trees of rows stay trees of rows.
-use Rattle.std.proofs.Common.{◌≡◌, ◌<◌, ◌⊎◌, inl, inr, length, sym, ap, subst, arith}
-use Rattle.std.specs.Prelude.{IsSome, IsNone, Result, Ok, Err, OnOk, OnErr}
+use Rattle.std.proofs.Common.{◌≡◌, ◌<◌, length, sym, ap, subst, arith}
+use Rattle.std.specs.Prelude.{IsNone, Result, Ok, Err, OnOk, OnErr}
 use Rattle.values.specs.declared.row.Row.{Row}
 use Rattle.values.specs.declared.limits.TheConstants.{MOST_ROWS}
 use Rattle.record_rules.specs.Table.{row_of, IsRising}
@@ -31,11 +31,7 @@ new_tree old row new tree put unknown room = record {
       omega arith;
 }
 
-pub added_tree : {X E : Type 0} (r : Result X E) (old : Tree) (row : Row) (new : Tree) → IsTree old → (length (rows_of old) < MOST_ROWS) ⊎ IsSome (row_of (rows_of old) row.client)
-    → IsNone (row_of (rows_of old) row.client) → OnOk r (IsPutIn old row new) → OnErr r (new ≡ old) → IsTree new
-added_tree (Ok x) old row new tree room unknown ok err = new_tree old row new tree ok unknown (by room)
-  where
-    by : (length (rows_of old) < MOST_ROWS) ⊎ IsSome (row_of (rows_of old) row.client) → length (rows_of old) < MOST_ROWS
-    by (inl few) = few
-    by (inr some) = absurd (let none = none_is (row_of (rows_of old) row.client) unknown in let known = subst IsSome none some in cc)
-added_tree (Err e) old row new tree room unknown ok err = subst IsTree (sym err) tree
+pub added_tree : {X E : Type 0} (r : Result X E) (old : Tree) (row : Row) (new : Tree) → IsTree old → length (rows_of old) < MOST_ROWS → IsNone (row_of (rows_of old) row.client)
+    → OnOk r (IsPutIn old row new) → OnErr r (new ≡ old) → IsTree new
+added_tree (Ok x) old row new tree few unknown ok err = new_tree old row new tree ok unknown few
+added_tree (Err e) old row new tree few unknown ok err = subst IsTree (sym err) tree

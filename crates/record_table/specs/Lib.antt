@@ -1,6 +1,6 @@
 pub mod Changes
 pub mod Slots
 pub mod Trees
-pub mod Ways
+pub mod Growths
 pub mod Pages
 pub mod Numbered

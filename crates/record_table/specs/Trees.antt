@@ -1,12 +1,10 @@
 -- Search trees of rows.
-use Rattle.std.specs.Prelude.{◌≡◌, ℕ, zero, suc, ◌+◌, ◌≤◌, max, List, [], ◌∷◌, ◌++◌, length, Option, Some, None, ⊤, ◌⊎◌, Bool, false, not, ◌==◌}
+use Rattle.std.specs.Prelude.{◌≡◌, ℕ, ◌+◌, ◌≤◌, ◌<◌, max, List, [], ◌∷◌, ◌++◌, length, Option, Some, None, IsNone, ⊤}
 use Rattle.std.specs.declared.rc.Rc.{Rc}
 use Rattle.std.specs.declared.alloc.Global.{Global}
-use Rattle.std.specs.Ordering.{match_ordering}
 use Rattle.values.specs.declared.ids.ClientId.{ClientId}
 use Rattle.values.specs.declared.row.Row.{Row}
-use Rattle.record_rules.specs.Clients.{client_cmp}
-use Rattle.record_rules.specs.Table.{put_row, IsRising}
+use Rattle.record_rules.specs.Table.{row_of, put_row, IsRising}
 use Rattle.values.specs.declared.limits.TheConstants.{MOST_ROWS}
 use Rattle.record_table.specs.declared.node.Node.{Node}
 use Rattle.record_table.specs.declared.node.Node.TheOpen.{Node-F}
@@ -48,54 +46,17 @@ IsBalanced (Fork left row right size levels) = IsLevel left right size levels ×
 abbrev pub forked : Tree → Row → Tree → Tree
 forked left row right = Fork left row right (size_of left + size_of right + 1) (max (levels_of left) (levels_of right) + 1)
 
--- the levels of two trees differ by no more than this
-abbrev pub AreNear : ℕ → Tree → Tree → Type 0
-AreNear by left right = (levels_of left ≤ levels_of right + by) × (levels_of right ≤ levels_of left + by)
-
--- the tree leans: one of its sides has more levels than the other
-abbrev pub Leans : Tree → Type 0
-Leans Empty = ⊥
-Leans (Fork left row right size levels) = ¬ (levels_of left ≡ levels_of right)
-
-abbrev pub leans : Tree → Bool
-leans Empty = false
-leans (Fork left row right size levels) = not (levels_of left == levels_of right)
-
--- the tree is that of a row between two trees, balanced anew
-pub record SettlesAt (left : Tree) (row : Row) (right whole : Tree) : Type 0 where
-  pub rows : rows_of whole ≡ rows_of left ++ row ∷ rows_of right
-  pub balanced : IsBalanced whole
-  -- it has the levels of the higher side or one more, and one more where the sides are near; it then leans where they differ
-  pub low : max (levels_of left) (levels_of right) ≤ levels_of whole
-  pub high : levels_of whole ≤ max (levels_of left) (levels_of right) + 1
-  pub near : AreNear 1 left right → levels_of whole ≡ max (levels_of left) (levels_of right) + 1
-  pub leaning : AreNear 1 left right → ¬ (levels_of left ≡ levels_of right) → Leans whole
-  -- a side that is too high and leans itself takes no level more
-  pub left_leans : levels_of left ≡ levels_of right + 2 → Leans left → levels_of whole ≡ levels_of left
-  pub right_leans : levels_of right ≡ levels_of left + 2 → Leans right → levels_of whole ≡ levels_of right
+-- what a tree must be that a row of a new client is put into
+pub record IsReady (tree : Tree) (client : ClientId) : Type 0 where
+  pub balanced : IsBalanced tree
+  pub rising : IsRising (rows_of tree)
+  pub unknown : IsNone (row_of (rows_of tree) client)
+  pub few : length (rows_of tree) < MOST_ROWS
 
 -- the tree is the old one with the row of a new client
 pub record IsPutIn (old : Tree) (row : Row) (whole : Tree) : Type 0 where
   pub rows : rows_of whole ≡ put_row (rows_of old) row
   pub balanced : IsBalanced whole
-  -- it is higher by one level at most, and then leans or was empty; and a tree that leaned is no higher
-  pub low : levels_of old ≤ levels_of whole
-  pub high : levels_of whole ≤ levels_of old + 1
-  pub grown : levels_of whole ≡ levels_of old + 1 → (levels_of old ≡ 0) ⊎ Leans whole
-  pub leaning : Leans old → levels_of whole ≡ levels_of old
-
--- the tree so many steps down the way to the place of the client's row; the way ends at that row, and behind the last tree
-abbrev pub after_steps : ClientId → ℕ → Tree → Tree
-after_steps client zero tree = tree
-after_steps client (suc n) Empty = Empty
-after_steps client (suc n) (Fork left row right size levels) =
-    match_ordering (client_cmp client row.client) (after_steps client n left) Empty (after_steps client n right)
-
--- the tree is the old one with the row of a new client, and no higher
-pub record IsPutBelow (old : Tree) (row : Row) (whole : Tree) : Type 0 where
-  pub rows : rows_of whole ≡ put_row (rows_of old) row
-  pub balanced : IsBalanced whole
-  pub levels : levels_of whole ≡ levels_of old
 
 -- the tree is the old one with the row in the place of its client's
 pub record IsWrittenIn (old : Tree) (row : Row) (whole : Tree) : Type 0 where

@@ -3,6 +3,8 @@
 #![tactic(auto)]
 
 mod change;
+mod growth;
+mod hang;
 mod insert;
 mod node;
 mod order;

@@ -1,7 +1,8 @@
 //! The nodes of a tree of rows.
-ghost use Rattle.std.specs.Prelude.{◌≡◌, ◌<◌, ◌+◌, IfOk, length};
+ghost use Rattle.std.specs.Prelude.{◌≡◌, ◌<◌, ◌+◌, max, IfOk, length};
 ghost use Rattle.values.specs.declared.limits.TheConstants.{MOST_ROWS};
 ghost use Rattle.record_table.specs.Trees.{tree_of, tree_under, rows_of, levels_of, size_of, IsBalanced, forked};
+ghost use Rattle.record_table.specs.Trees.Tree.{Empty};
 
 use std::alloc::Global;
 use std::rc::Rc;
@@ -52,21 +53,36 @@ pub fn shared(link: &Link) -> Result<Link, Memory>
     }
 }
 
-/// The node of a row between two trees.
-pub fn fork(left: Link, row: Rc<Row>, right: Link) -> Node
-    requires left { IsBalanced (tree_under left) }
-    requires right { IsBalanced (tree_under right) }
-    requires few { length (rows_of (tree_under left)) + length (rows_of (tree_under right)) < MOST_ROWS }
-    ensures { tree_of result ≡ forked (tree_under left) row.value (tree_under right) }
+/// How many rows the tree of a row between two trees has.
+pub fn fork_size(left: &Link, right: &Link) -> u32
+    requires left { IsBalanced (tree_under left.now) }
+    requires right { IsBalanced (tree_under right.now) }
+    requires few { length (rows_of (tree_under left.now)) + length (rows_of (tree_under right.now)) < MOST_ROWS }
+    ensures { result ≡ size_of (tree_under left.now) + size_of (tree_under right.now) + 1 }
 {
-    let size = size(&left) + size(&right) + 1;
-    let levels = levels(&left).max(levels(&right)) + 1;
+    size(left) + size(right) + 1
+}
+
+/// How many levels the tree of a row between two trees has.
+pub fn fork_levels(left: &Link, right: &Link) -> u32
+    requires left { IsBalanced (tree_under left.now) }
+    requires right { IsBalanced (tree_under right.now) }
+    requires few { length (rows_of (tree_under left.now)) + length (rows_of (tree_under right.now)) < MOST_ROWS }
+    ensures { result ≡ max (levels_of (tree_under left.now)) (levels_of (tree_under right.now)) + 1 }
+{
+    levels(left).max(levels(right)) + 1
+}
+
+/// The node of a row alone.
+pub fn leaf(row: Rc<Row>) -> Node
+    ensures { tree_of result ≡ forked Empty row.value Empty }
+{
     Node {
-        left,
+        left: None,
         row,
-        right,
-        size,
-        levels,
+        right: None,
+        size: 1,
+        levels: 1,
     }
 }
 

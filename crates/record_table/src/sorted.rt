@@ -80,6 +80,10 @@ impl RowStore for SortedRows {
         }
     }
 
+    fn add(&mut self, row: Row) -> Result<(), Memory> {
+        self.put(row)
+    }
+
     fn change(&mut self, client: &ClientId, last: u64, change: Change) -> Result<(), Memory> {
         if let Ok(slot) = search(&self.order, &self.numbers, number_of(client)) {
             change_row(&mut self.slots[slot], last, change);

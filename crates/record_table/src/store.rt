@@ -1,5 +1,5 @@
 //! Stores of rows.
-ghost use Rattle.std.specs.Prelude.{◌≡◌, ◌<◌, ◌⊎◌, [], length, List, IsSome, IfOk, OnOk, OnErr, option_copied, slice_get};
+ghost use Rattle.std.specs.Prelude.{◌≡◌, ◌<◌, ◌⊎◌, [], length, List, IsSome, IsNone, IfOk, OnOk, OnErr, option_copied, slice_get};
 ghost use Rattle.values.specs.declared.limits.TheConstants.{MOST_ROWS};
 
 use crate::change::Change;
@@ -36,6 +36,13 @@ pub trait RowStore: Sized {
     /// has changed.
     fn put(&mut self, row: Row) -> Result<(), Memory>
         requires { (length (content self.old) < MOST_ROWS) ⊎ IsSome (row_of (content self.old) row.client) }
+        ensures ok { OnOk result (content self.new ≡ put_row (content self.old) row) }
+        ensures err { OnErr result (content self.new ≡ content self.old) };
+
+    /// Adds the row of a client that has none, at its place. After `Memory` nothing has changed.
+    fn add(&mut self, row: Row) -> Result<(), Memory>
+        requires few { length (content self.old) < MOST_ROWS }
+        requires unknown { IsNone (row_of (content self.old) row.client) }
         ensures ok { OnOk result (content self.new ≡ put_row (content self.old) row) }
         ensures err { OnErr result (content self.new ≡ content self.old) };
 

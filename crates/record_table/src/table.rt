@@ -122,7 +122,7 @@ impl<T: RowStore> TableOver<T> {
         }
         let (change, response) = outcome(self.alloc, request, None)?;
         if let Change::Keep(kept) = change {
-            self.rows.put(Row {
+            self.rows.add(Row {
                 client: *client,
                 last: number,
                 kept: Some(kept),
@@ -156,7 +156,7 @@ impl<T: RowStore> TableOver<T> {
         if self.rows.count() >= self.limit || self.rows.find(&row.client).is_some() {
             return Ok(false);
         }
-        self.rows.put(row)?;
+        self.rows.add(row)?;
         Ok(true)
     }
 

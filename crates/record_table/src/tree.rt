@@ -5,7 +5,7 @@ use crate::insert::insert;
 use crate::node::{Link, Node, levels, shared, size};
 use crate::order::number_of;
 use crate::store::RowStore;
-use crate::walk::{Way, find, nth, way_to};
+use crate::walk::{find, nth};
 use crate::write::change_under;
 use std::alloc::Global;
 use std::marker::Model;
@@ -85,25 +85,26 @@ impl RowStore for TreeRows {
     }
 
     fn put(&mut self, row: Row) -> Result<(), Memory> {
-        let number = number_of(&row.client);
-        match way_to(&self.root, &row.client, number) {
-            Way::Known => {
-                let (client, last) = (row.client, row.last);
-                let mut change = keeping(row.kept);
-                change_under(
-                    self.alloc,
-                    &mut self.root,
-                    &client,
-                    number,
-                    last,
-                    &mut change,
-                )
-            }
-            Way::New(leaning) => {
-                let row = Rc::new(self.alloc, row)?;
-                insert(self.alloc, &mut self.root, number, &row, leaning)
-            }
+        if find(&self.root, &row.client).is_none() {
+            return self.add(row);
         }
+        let number = number_of(&row.client);
+        let (client, last) = (row.client, row.last);
+        let mut change = keeping(row.kept);
+        change_under(
+            self.alloc,
+            &mut self.root,
+            &client,
+            number,
+            last,
+            &mut change,
+        )
+    }
+
+    fn add(&mut self, row: Row) -> Result<(), Memory> {
+        let number = number_of(&row.client);
+        let row = Rc::new(self.alloc, row)?;
+        insert(self.alloc, &mut self.root, number, &row)
     }
 
     fn change(&mut self, client: &ClientId, last: u64, change: Change) -> Result<(), Memory> {

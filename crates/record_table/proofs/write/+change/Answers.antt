@@ -1,8 +1,8 @@
-use Rattle.std.proofs.Common.{◌≡◌, length, sym, ap, subst, ◌∙◌, arith, rules}
+use Rattle.std.proofs.Common.{◌≡◌, arith, rules}
 use Rattle.record_table.specs.declared.node.Node.TheViews.{out-Node, roll-Node}
 use Rattle.record_table.specs.Changes.{changed_row, kept_after}
 use Rattle.record_table.specs.Trees.{tree_of, tree_under, rows_of, IsWrittenIn}
-use Rattle.record_table.proofs.RowIn.{whole_at, number_at, followed}
+use Rattle.record_table.proofs.RowIn.{number_at, followed}
 use Rattle.record_table.proofs.WrittenIn.{HasRow, has_left, has_right, shorter, write_left, write_middle, write_right}
 use Rattle.record_table.proofs.write.+change.Goals as goal
 

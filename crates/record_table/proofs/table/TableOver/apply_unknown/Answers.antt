@@ -8,10 +8,10 @@ use Rattle.record_rules.proofs.Sound.{backs_up}
 use Rattle.record_table.proofs.Changed.{sound_new}
 use Rattle.record_table.proofs.table.TableOver.apply_unknown.Given.{Over}
 use Rattle.record_table.proofs.table.TableOver.apply_unknown.Goals as goal
-use Rattle.record_table.proofs.table.TableOver.apply_unknown.Goals.{In_ok-put, in-Backup, in_default, else-is_backup-via-then-is_backup+else-count-self, else-is_backup-via-else-is_backup}
+use Rattle.record_table.proofs.table.TableOver.apply_unknown.Goals.{In_ok-add, in-Backup, in_default, else-is_backup-via-then-is_backup+else-count-self, else-is_backup-via-else-is_backup}
 
 -- where the request was seen to be no backup, it is none
-no_backup : (g : Over) (c : In_ok-put g) → c.match-matches.matches ≡ false → ¬ ((secret : List ℕ) × (pin : Hash) × (tries : ℕ) × (c.args.request.now ≡ Backup secret pin tries))
+no_backup : (g : Over) (c : In_ok-add g) → c.match-matches.matches ≡ false → ¬ ((secret : List ℕ) × (pin : Hash) × (tries : ℕ) × (c.args.request.now ≡ Backup secret pin tries))
 no_backup g c seen (secret, pin, tries, is) =
     elim c.match-matches.branch [
       | in-Backup w ↦ let t = w.matches-is in cc
@@ -30,4 +30,4 @@ invariant_of-self g c =
       | else-is_backup-via-else-is_backup w ↦ absurd (no_backup g c w.if-is_backup.false backup)
     ] in
     sound_new (record { limit = c.self.inside.limit; rows = g.T.RowStore.content c.self.inside.rows }) c.args.client.now c.args.number c.args.request.now
-    c.in-Keep.kept c.in_ok-change.response (g.T.RowStore.content c.put.new.self) c.self.invariant c.requires.valid answered room c.in_ok-put.ensures.ok
+    c.in-Keep.kept c.in_ok-change.response (g.T.RowStore.content c.add.new.self) c.self.invariant c.requires.valid answered room c.in_ok-add.ensures.ok
