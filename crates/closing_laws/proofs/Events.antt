@@ -14,7 +14,7 @@ use Rattle.group_model.specs.Happens as happening
 use Rattle.group_model.specs.Run.{Enclaves, World, newly, start_enclave, enclaves, run}
 use Rattle.log_laws.proofs.Moving.{all_numbered}
 use Rattle.log_laws.proofs.History.{all_more}
-use Rattle.event_walk.specs.Cases.{Handing, Ticked, Saved, Joins, Admits, Removes, Margins, Delivered, Asked, Said, handed, after_call, Survives}
+use Rattle.event_walk.specs.Cases.{Handing, Delivered, handed, after_call, Survives}
 use Rattle.event_walk.proofs.Walk as walk
 use Rattle.closing_laws.proofs.Tells.{IsTable, TellsState, table_more, state_later}
 use Rattle.closing_laws.proofs.Moved.{IsFound, KeptRun, KnownHostInput, fresh_kept, moves_kept, call_kept, stopped_kept, enclave_later}
@@ -57,14 +57,7 @@ first_told w c limit unset k = record {
 -- what is handed over tells no more than the world does
 known_handed : (w : World) → KeptWorld w → (v : ℕ) (h : Handing w v) → KnownHostInput w.committed w.confs (handed h)
 known_handed w kept v (Delivered k m is to) = all_numbered (λ (m : Sent Message). IsTable w.committed w.confs m.message.names.path) w.messages k m is kept.mail
-known_handed w kept v Ticked = tt
-known_handed w kept v Saved = tt
-known_handed w kept v (Joins id) = tt
-known_handed w kept v (Admits id) = tt
-known_handed w kept v (Removes id) = tt
-known_handed w kept v (Margins margin) = tt
-known_handed w kept v (Asked client number request before is) = tt
-known_handed w kept v (Said client core number request has says) = tt
+known_handed w kept v other = tt
 
 -- a roll is a call like any other
 rolls_kept : (link : Link) (w : World) (v j : ℕ) (e : Enclave) (o : Option Replica) → value_at w.field.running v ≡ Some e → slice_get e.saved j ≡ o → KeptWorld w → KeptWorld (after_call w v e (Roll j) (rolls_to e j o))

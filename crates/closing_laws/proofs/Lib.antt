@@ -1,6 +1,5 @@
 pub mod Tells
 mod Raised
-mod Rules
 mod Stepped
 pub mod Moved
 pub mod Events

@@ -1,4 +1,5 @@
 -- What a run keeps of all that was told, and that it is kept where one replica moves.
+use Rattle.log_laws.proofs.History.{any_more, any_right, all_more}
 use Rattle.std.proofs.Common.{◌≡◌, ℕ, ◌≤◌, ◌==◌, ◌-◌, ◌⊎◌, not, max, Bool, true, false, inl, inr, Option, Some, None, List, [], ◌∷◌, ◌++◌, length, map, slice_get, refl, sym, subst, ◌∙◌, arith}
 use Rattle.std.specs.Prelude.{IsSomeAnd, IfSome}
 use Rattle.std.specs.List.{AllByRecursion}
@@ -11,19 +12,16 @@ use Rattle.replica_model.specs.Path.{Link}
 use Rattle.replica_model.specs.Keyed.{value_at, without}
 use Rattle.replica_model.specs.Replica.{Replica}
 use Rattle.replica_model.specs.Message.{Message}
-use Rattle.replica_model.specs.Call.{Call, still}
 use Rattle.replica_model.specs.Call as step
 use Rattle.replica_model.specs.Step.{step as step_of}
-use Rattle.group_model.specs.Enclave.{Hello, Begin, Learn, HostInput, Tick, Peer, Client, Join, Admit, Remove, Save, Roll, Connect, Margin, Enclave, Called, calls, saves_if, rolls_to, accepts, called}
-use Rattle.group_model.specs.Enclave.{started as started_as}
+use Rattle.group_model.specs.Enclave.{Hello, Begin, Learn, HostInput, Tick, Peer, Client, Join, Admit, Remove, Save, Roll, Connect, Margin, Enclave, Called, calls, saves_if, rolls_to, accepts, called, started as started_as}
 use Rattle.group_model.specs.Group.{Setup, Sent, sent_by, committed_in, conf_told}
 use Rattle.group_model.specs.Run.{Recorded, Enclaves, moves}
 use Rattle.group_model.specs.Log.{AnyByRecursion, state_of}
 use Rattle.log_laws.proofs.Ending.{all-append}
 use Rattle.log_laws.proofs.Lookups.{put_cases, without_stood}
-use Rattle.log_laws.proofs.History.{all_more}
 use Rattle.log_laws.proofs.Moving.{all_get}
-use Rattle.closing_laws.proofs.Tells.{any_more, any_right, IsAmong, IsTable, Holds, NamesTold, TellsCall, TellsState, table_more, none_from, state_later, state_after}
+use Rattle.closing_laws.proofs.Tells.{IsAmong, IsTable, Holds, NamesTold, TellsCall, TellsState, table_more, none_from, state_later, state_after}
 use Rattle.closing_laws.proofs.Stepped.{IsKnownInput, step_tells}
 
 abbrev pub MailTold : ℕ → List Conf → List (Sent Message) → Type 0
@@ -55,16 +53,8 @@ enclave_later seen later new confs e le g = record {
 }
 
 abbrev pub KnownHostInput : ℕ → List Conf → HostInput Message → Type 0
-KnownHostInput seen confs Tick = Unit {0}
 KnownHostInput seen confs (Peer from to m) = IsTable seen confs m.names.path
-KnownHostInput seen confs (Client client number request) = Unit {0}
-KnownHostInput seen confs (Join id) = Unit {0}
-KnownHostInput seen confs (Admit id) = Unit {0}
-KnownHostInput seen confs (Remove id) = Unit {0}
-KnownHostInput seen confs Save = Unit {0}
-KnownHostInput seen confs (Roll state) = Unit {0}
-KnownHostInput seen confs (Connect id) = Unit {0}
-KnownHostInput seen confs (Margin margin) = Unit {0}
+KnownHostInput seen confs other = Unit {0}
 
 -- a call of an enclave
 pub record KeptCalled (seen : ℕ) (confs : List Conf) (c : Called) : Type 0 where
@@ -73,7 +63,7 @@ pub record KeptCalled (seen : ℕ) (confs : List Conf) (c : Called) : Type 0 whe
   pub saved : AllByRecursion (TellsState seen confs) c.enclave.saved
 
 module _ (link : Link) (seen : ℕ) (confs : List Conf) (e : Enclave) (g : KeptEnclave seen confs e) where
-  stepped : (x : step.Input) → IsKnownInput seen confs link e.replica g.now x → KeptCalled seen confs (calls e (step_of link e.replica x))
+  stepped : (x : step.Input) → IsKnownInput seen confs link x → KeptCalled seen confs (calls e (step_of link e.replica x))
   stepped x known = record { same = refl; call = step_tells seen confs link e.replica g.now x known; saved = g.saved }
 
   accepted : (mine linked : Bool) (from to : ℕ) (m : Message) → IsTable seen confs m.names.path → KeptCalled seen confs (accepts mine linked link e from to m)

@@ -1,25 +1,19 @@
 -- A committed index that rises is told, and the end of a call tells no more.
-use Rattle.std.proofs.Common.{◌≡◌, ℕ, zero, suc, ap, append-nil, ◌∙◌, ◌+◌, ◌-◌, ◌<◌, ◌≤◌, Bool, not, ◌&&◌, nat_le, max, inl, inr, Option, Some, None, List, [], ◌∷◌, ◌++◌, length, take, drop, map, refl, sym, subst, arith}
+use Rattle.std.proofs.Common.{◌≡◌, ℕ, zero, suc, ap, append-nil, ◌∙◌, ◌+◌, ◌-◌, ◌<◌, ◌≤◌, Bool, max, inl, inr, List, [], ◌∷◌, ◌++◌, length, take, drop, map, refl, sym, subst, arith}
 use Rattle.std.specs.Prelude.{fold}
-use Rattle.std.proofs.lemmas.Bool.{cond_both, cases_lt, cases_eq}
+use Rattle.std.proofs.lemmas.Bool.{cases_lt, cases_eq}
 use Rattle.std.proofs.lemmas.List.{length-take, length-drop}
 use Rattle.std.proofs.lemmas.Grind.{fold-append}
 use Rattle.group_quorum.specs.Conf.{Conf}
-use Rattle.values.specs.declared.entry.Hash.{Hash}
 use Rattle.values.specs.declared.entry.LogEntry.{LogEntry}
-use Rattle.replica_model.specs.Path.{Path, Link}
-use Rattle.replica_model.specs.Configs.{conf_index}
-use Rattle.replica_model.specs.Message.{Message}
-use Rattle.replica_model.specs.Replica.{Role, Learner, Follower, Candidate, Leader, Leading, Replica}
+use Rattle.replica_model.specs.Path.{Path}
+use Rattle.replica_model.specs.Replica.{Leading, Replica}
 use Rattle.replica_model.specs.Enough.{greatest_upto}
-use Rattle.replica_model.specs.Peers.{is_voter}
 use Rattle.replica_model.specs.Call.{Call, moment}
 use Rattle.replica_model.specs.Raise.{numbered_from, commit_to, may_promise, may_commit, promise_raised, promise_index, commit_index, raise}
-use Rattle.replica_model.specs.Send.{can_append, appended_to, send_append, send_appends, stepped_down, ended}
 use Rattle.replica_model.proofs.Greatest.{greatest}
 use Rattle.group_model.specs.Group.{committed_in, conf_told, taken_index}
-use Rattle.log_laws.proofs.Ending.{all-append}
-use Rattle.closing_laws.proofs.Tells.{IsTable, SendingsTold, TellsFrom, drop_past, Tells, TellsCall}
+use Rattle.closing_laws.proofs.Tells.{TellsFrom, drop_past, Tells, TellsCall}
 
 -- the greatest index of these and n
 abbrev reach : ℕ → List (ℕ × LogEntry) → ℕ
@@ -123,40 +117,3 @@ module _ (seen : ℕ) (confs : List Conf) where
       let within : s.committed ≤ promise_index s l = omega (arith, g.within, up) in
       commit_tells raised (commit_index raised.state l) (greatest_to (may_commit raised.state l) s.committed (promise_index s l) within)
       (record { within = within; fits = fits; below = g.below; above = g.above; told = g.told; held = g.held; sendings = g.sendings; named = g.named; from = g.from })
-
-  -- an append names nothing
-  append_tells : (link : Link) (c : Call) (role : Role) (u : ℕ) → c.state.role ≡ role → TellsCall seen confs c → TellsCall seen confs (send_append link c role u)
-  append_tells link c (Learner taking) u is g = g
-  append_tells link c Follower u is g = g
-  append_tells link c (Candidate votes) u is g = g
-  append_tells link c (Leader l) u is g = cond_both (can_append c.state l u) (appended_to link c l u) c (TellsCall seen confs)
-      (λ b. record {
-        within = g.within;
-        fits = g.fits;
-        below = g.below;
-        above = g.above;
-        told = g.told;
-        held = g.held;
-        sendings = subst (SendingsTold seen (map conf_told c.batch.members ++ confs)) is g.sendings;
-        named = all-append (λ (m : ℕ × Message). IsTable seen (map conf_told c.batch.members ++ confs) m.1.names.path) c.sent _ g.named (tt, tt);
-        from = g.from;
-      })
-      (λ b. g)
-
-  appends_tell : (link : Link) (us : List ℕ) (c : Call) → TellsCall seen confs c → TellsCall seen confs (send_appends link c us)
-  appends_tell link [] c g = g
-  appends_tell link (u ∷ us) c g = appends_tell link us (send_append link c c.state.role u) (append_tells link c c.state.role u refl g)
-
-  stopped_tells : (c : Call) (role : Role) → c.state.role ≡ role → TellsCall seen confs c → TellsCall seen confs (record c { state = stepped_down c.state role })
-  stopped_tells c (Learner taking) is g = g
-  stopped_tells c Follower is g = g
-  stopped_tells c (Candidate votes) is g = g
-  stopped_tells c (Leader l) is g = cond_both (not (is_voter c.state) && nat_le (conf_index c.state.path) c.state.committed) (record (c.state) { role = Follower; known = 0 }) c.state (λ s. TellsCall seen confs (record c { state = s }))
-      (λ b. record { within = g.within; fits = g.fits; below = g.below; above = g.above; told = g.told; held = g.held; sendings = tt; named = g.named; from = g.from })
-      (λ b. g)
-
-  pub ended_tells : (link : Link) (c : Call) (halted : Option (ℕ × Hash × Hash)) → TellsCall seen confs c → TellsCall seen confs (ended link c halted)
-  ended_tells link c (Some d) g = g
-  ended_tells link c None g =
-      let sent : Call = send_appends link c c.appends in
-      stopped_tells sent sent.state.role refl (appends_tell link c.appends c g)

@@ -1,5 +1,6 @@
 -- What a call tells: how far the committed index rose, and each configuration that its path gained.
-use Rattle.std.proofs.Common.{◌≡◌, ℕ, ◌+◌, ◌≤◌, zero, suc, max, inl, inr, Some, List, [], ◌∷◌, ◌++◌, length, take, drop, map, refl, sym, ap, arith}
+use Rattle.log_laws.proofs.History.{any_right, all_more}
+use Rattle.std.proofs.Common.{◌≡◌, ℕ, ◌+◌, ◌≤◌, zero, suc, max, Some, List, [], ◌∷◌, ◌++◌, length, take, drop, map, refl, sym, ap, arith}
 use Rattle.std.proofs.lemmas.List.{length-take}
 use Rattle.std.specs.List.{AllByRecursion}
 use Rattle.group_quorum.specs.Conf.{Conf}
@@ -9,33 +10,11 @@ use Rattle.values.specs.declared.entry.LogEntry.{LogEntry}
 use Rattle.replica_model.specs.Path.{Path}
 use Rattle.replica_model.specs.Keyed.{value_at}
 use Rattle.replica_model.specs.Message.{Message}
-use Rattle.replica_model.specs.Replica.{Sending, Role, Learner, Follower, Candidate, Leader, Replica}
+use Rattle.replica_model.specs.Replica.{Sending, Role, Leader, Replica}
 use Rattle.replica_model.specs.Call.{Call}
 use Rattle.replica_model.specs.Raise.{numbered_from}
 use Rattle.group_model.specs.Group.{committed_in, conf_told}
 use Rattle.group_model.specs.Log.{AnyByRecursion}
-use Rattle.log_laws.proofs.History.{all_more}
-
--- ---- elements of lists
-module _ {A : Type 0} where
-  pub any_more : (P Q : A → Type 0) → ((x : A) → P x → Q x) → (xs : List A) → AnyByRecursion P xs → AnyByRecursion Q xs
-  any_more P Q more [] h = absurd h
-  any_more P Q more (x ∷ xs) (inl h) = inl (more x h)
-  any_more P Q more (x ∷ xs) (inr h) = inr (any_more P Q more xs h)
-
-  pub any_left : (P : A → Type 0) (xs ys : List A) → AnyByRecursion P xs → AnyByRecursion P (xs ++ ys)
-  any_left P [] ys h = absurd h
-  any_left P (x ∷ xs) ys (inl h) = inl h
-  any_left P (x ∷ xs) ys (inr h) = inr (any_left P xs ys h)
-
-  pub any_right : (P : A → Type 0) (xs ys : List A) → AnyByRecursion P ys → AnyByRecursion P (xs ++ ys)
-  any_right P [] ys h = h
-  any_right P (x ∷ xs) ys h = inr (any_right P xs ys h)
-
-  pub all_take : (P : A → Type 0) (k : ℕ) (xs : List A) → AllByRecursion P xs → AllByRecursion P (take k xs)
-  all_take P zero xs h = tt
-  all_take P (suc k) [] h = tt
-  all_take P (suc k) (x ∷ xs) h = (h.0, all_take P k xs h.1)
 
 -- ---- configurations
 abbrev pub IsAmong : List Conf → Conf → Type 0
@@ -78,10 +57,8 @@ table_short seen confs (e ∷ p) h = h.1
 
 -- the tables that are being sent are such
 abbrev pub SendingsTold : ℕ → List Conf → Role → Type 0
-SendingsTold seen confs (Learner taking) = Unit {0}
-SendingsTold seen confs Follower = Unit {0}
-SendingsTold seen confs (Candidate votes) = Unit {0}
 SendingsTold seen confs (Leader l) = (v : ℕ) (x : Sending) → value_at l.sendings v ≡ Some x → IsTable seen confs x.path
+SendingsTold seen confs other = Unit {0}
 
 abbrev pub NamesTold : ℕ → List Conf → List (ℕ × Message) → Type 0
 NamesTold seen confs sent = AllByRecursion (λ (m : ℕ × Message). IsTable seen confs m.1.names.path) sent
@@ -145,10 +122,8 @@ pub table_more : (seen later : ℕ) (new confs : List Conf) (p : Path) → seen 
 table_more seen later new confs p le h = table_from later (new ++ confs) p (path_more new confs p (table_told seen confs p h)) (omega (arith, table_short seen confs p h, le))
 
 pub sendings_more : (seen later : ℕ) (new confs : List Conf) (role : Role) → seen ≤ later → SendingsTold seen confs role → SendingsTold later (new ++ confs) role
-sendings_more seen later new confs (Learner taking) le h = tt
-sendings_more seen later new confs Follower le h = tt
-sendings_more seen later new confs (Candidate votes) le h = tt
 sendings_more seen later new confs (Leader l) le h = λ v x is. table_more seen later new confs x.path le (h v x is)
+sendings_more seen later new confs other le h = tt
 
 pub state_later : (seen later : ℕ) (new confs : List Conf) (s : Replica) → seen ≤ later → TellsState seen confs s → TellsState later (new ++ confs) s
 state_later seen later new confs s le g = record {

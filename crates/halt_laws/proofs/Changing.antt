@@ -1,4 +1,5 @@
 -- Changes of the members are moves of the node: each is a single change.
+use Rattle.step_walk.proofs.Outcomes as may
 use Rattle.std.proofs.Common.{◌≡◌, ℕ, ◌+◌, ◌≤◌, inl, inr, Bool, true, false, cond, not, ◌&&◌, nat_le, Option, Some, None, [], ◌∷◌, ◌++◌, length, take, refl, sym, ap, ◌∙◌, subst, arith}
 use Rattle.std.proofs.lemmas.Bool.{cond-true, cond-false, cases_Bool, and_parts, and_from, le-leb, ltb-false}
 use Rattle.std.proofs.lemmas.Option.{none-some}
@@ -11,12 +12,12 @@ use Rattle.group_quorum.specs.Conf.{Conf}
 use Rattle.group_quorum.specs.Voters.{is_in}
 use Rattle.replica_model.specs.Path.{Path, Link}
 use Rattle.replica_model.specs.Configs.{conf, conf_index}
-use Rattle.replica_model.specs.Replica.{Role, Learner, Follower, Candidate, Leader, Leading, Replica}
+use Rattle.replica_model.specs.Replica.{Leader, Leading, Replica}
 use Rattle.replica_model.specs.Peers.{is_pending, newest, others, leads_with}
 use Rattle.replica_model.specs.Call.{Call, still, empty_batch, send_to}
 use Rattle.replica_model.specs.Raise.{pushed}
 use Rattle.replica_model.specs.Tables.{part_message}
-use Rattle.replica_model.specs.Changes.{votes, join_refusal, admit_refusal, remove_refusal, margin_refusal, unless, joined, join, push_members, with_voter, without_voter, admit, remove, set_margin, at_leader}
+use Rattle.replica_model.specs.Changes.{join_refusal, admit_refusal, remove_refusal, margin_refusal, joined, join, push_members, with_voter, without_voter, admit, remove, set_margin}
 use Rattle.group_model.specs.Log.{IsFrontOf}
 use Rattle.log_laws.proofs.Good.{front_refl}
 use Rattle.path_machine.specs.Node as node
@@ -44,10 +45,6 @@ not_fails true h = refl
 not_fails false h = absurd (let apart : true ≡ false = h in cc)
 
 module _ (link : Link) (first : Conf) (rises : is_rising first.voters ≡ true) (holds : ℕ → Bool) (Held : Path → Type 0) (closed : (p w : Path) → IsFrontOf p w → Held w → Held p) (w : Machine) (v : ℕ) (s : Replica) (f : Going link first holds Held w v (still s)) where
-  unless_went : (o refusal : Option Refusal) (c : Call) → refusal ≡ o → (refusal ≡ None → Going link first holds Held w v c) → Going link first holds Held w v (unless s o c)
-  unless_went (Some r) refusal c is fine = f
-  unless_went None refusal c is fine = fine is
-
   module _ (l : Leading) (is : s.role ≡ Leader l) where
     abbrev known : (s.first ≡ first) × LeadingFits s.path s.committed l f.at.marks
     known = known_of first holds f.now v s f.at l is
@@ -69,8 +66,8 @@ module _ (link : Link) (first : Conf) (rises : is_rising first.voters ≡ true) 
         subst (λ c. is_rising (conf c s.path).voters ≡ true) (sym known.0) upto
 
     -- join
-    join_went : (id : ℕ) (linked : Bool) → Going link first holds Held w v (join link s l id linked)
-    join_went id linked = unless_went (join_refusal s l id linked) (join_refusal s l id linked) _ refl
+    pub join_went : (id : ℕ) (linked : Bool) → Going link first holds Held w v (join link s l id linked)
+    join_went id linked = may.unless_by (Going link first holds Held w v) s (join_refusal s l id linked) _ (λ r at. f)
         (λ fine.
         let laws = reached_laws first is_single_change single_change_overlaps holds f.now f.at.reached in
         let within : s.committed ≤ s.promised = laws.committed_promised v n stands in
@@ -102,8 +99,8 @@ module _ (link : Link) (first : Conf) (rises : is_rising first.voters ≡ true) 
         (onward link first holds Held w v (still s) c' f _ _ p.0 p.1 refl (closed s.path (s.path ++ e ∷ []) (e ∷ [], refl)) (λ held x. x) (λ t same. inl same) refl)
         refl
 
-    admit_went : (id : ℕ) → Going link first holds Held w v (admit s l id)
-    admit_went id = unless_went (admit_refusal s l id) (admit_refusal s l id) _ refl
+    pub admit_went : (id : ℕ) → Going link first holds Held w v (admit s l id)
+    admit_went id = may.unless_by (Going link first holds Held w v) s (admit_refusal s l id) _ (λ r at. f)
         (λ fine.
         let p1 = passed _ _ _ fine in
         let p2 = passed _ _ _ p1.1 in
@@ -112,36 +109,17 @@ module _ (link : Link) (first : Conf) (rises : is_rising first.voters ≡ true) 
         (record { next_fits = known.1.next_fits; mark_fits = known.1.mark_fits; marked = known.1.marked; sendings = known.1.sendings })
         p2.0 (admission_is_single (newest s) id voters_rise p3.0))
 
-    remove_went : (id : ℕ) → Going link first holds Held w v (remove s l id)
-    remove_went id = unless_went (remove_refusal s id) (remove_refusal s id) _ refl
+    pub remove_went : (id : ℕ) → Going link first holds Held w v (remove s l id)
+    remove_went id = may.unless_by (Going link first holds Held w v) s (remove_refusal s id) _ (λ r at. f)
         (λ fine.
         let p1 = passed _ _ _ fine in
         let p2 = passed _ _ _ p1.1 in
         let p3 = passed _ _ _ p2.1 in
         push_members_went l (without_voter (newest s) id) known.1 p2.0 (removal_is_single (newest s) id voters_rise (not_fails (is_in (newest s).voters id) p3.0)))
 
-    margin_went : (margin : ℕ) → Going link first holds Held w v (set_margin s l margin)
-    margin_went margin = unless_went (margin_refusal s margin) (margin_refusal s margin) _ refl
+    pub margin_went : (margin : ℕ) → Going link first holds Held w v (set_margin s l margin)
+    margin_went margin = may.unless_by (Going link first holds Held w v) s (margin_refusal s margin) _ (λ r at. f)
         (λ fine.
         let p1 = passed _ _ _ fine in
         let p2 = passed _ _ _ p1.1 in
         push_members_went l (record (newest s) { margin = margin }) known.1 p2.0 (margin_is_single (newest s) margin voters_rise))
-
-  -- a change at a leader; elsewhere it is refused
-  change_went : (role : Role) (change : Leading → Call) → s.role ≡ role → ((l : Leading) → s.role ≡ Leader l → Going link first holds Held w v (change l)) → Going link first holds Held w v (at_leader s role change)
-  change_went (Learner taking) change is fine = f
-  change_went Follower change is fine = f
-  change_went (Candidate votes) change is fine = f
-  change_went (Leader l) change is fine = fine l is
-
-  pub joins_went : (id : ℕ) (linked : Bool) → Going link first holds Held w v (at_leader s s.role (λ l. join link s l id linked))
-  joins_went id linked = change_went s.role (λ l. join link s l id linked) refl (λ l is. join_went l is id linked)
-
-  pub admits_went : (id : ℕ) → Going link first holds Held w v (at_leader s s.role (λ l. admit s l id))
-  admits_went id = change_went s.role (λ l. admit s l id) refl (λ l is. admit_went l is id)
-
-  pub removes_went : (id : ℕ) → Going link first holds Held w v (at_leader s s.role (λ l. remove s l id))
-  removes_went id = change_went s.role (λ l. remove s l id) refl (λ l is. remove_went l is id)
-
-  pub margins_went : (margin : ℕ) → Going link first holds Held w v (at_leader s s.role (λ l. set_margin s l margin))
-  margins_went margin = change_went s.role (λ l. set_margin s l margin) refl (λ l is. margin_went l is margin)

@@ -1,42 +1,40 @@
 -- Elections and requests are moves of the node.
-use Rattle.std.proofs.Common.{◌≡◌, ℕ, ◌+◌, ◌<◌, ◌≤◌, ◌⊎◌, inl, inr, Bool, true, false, ◌&&◌, ◌||◌, ◌==◌, nat_lt, Option, Some, None, Result, Ok, Err, List, [], ◌∷◌, ◌++◌, length, map, refl, sym, ap, ◌∙◌, subst, arith}
-use Rattle.std.proofs.lemmas.Bool.{cond_both, cond-true, and_parts, and_from, or_cases, or_parts, cases_Bool, cases_eq, eqb-true, eq-eqb, le-ltb}
+use Rattle.path_machine.specs.Node.{Node, Outcome, with_value}
+use Rattle.step_walk.specs.Rules.{IsHolder}
+use Rattle.step_walk.proofs.Outcomes as may
+use Rattle.step_walk.proofs.Outcomes.{same_to_each}
+use Rattle.std.proofs.Common.{◌≡◌, ℕ, ◌+◌, ◌<◌, ◌≤◌, ◌⊎◌, inl, inr, Bool, true, false, ◌&&◌, ◌||◌, ◌==◌, nat_lt, Option, Some, List, [], ◌∷◌, ◌++◌, length, refl, sym, ap, ◌∙◌, subst, arith}
+use Rattle.std.proofs.lemmas.Bool.{cond_both, cond-true, and_parts, and_from, or_cases, cases_eq, eqb-true, eq-eqb, le-ltb}
 use Rattle.std.proofs.lemmas.Map.Views.{any-filter_same}
 use Rattle.std.proofs.lemmas.Option.{same_Some}
 use Rattle.values.specs.declared.entry.Body.{Body}
 use Rattle.values.specs.declared.entry.Body.TheVariants.{Noop, Ask}
-use Rattle.values.specs.declared.entry.Hash.{Hash}
 use Rattle.values.specs.declared.entry.LogEntry.{LogEntry}
 use Rattle.values.specs.declared.ids.ClientId.{ClientId}
-use Rattle.values.specs.declared.message.Request.{Request}
-use Rattle.values.specs.declared.peer.PeerMsg.{PeerMsg}
 use Rattle.values.specs.declared.peer.PeerMsg.TheVariants.{AskVote, Vote}
 use Rattle.client_msgs.specs.Canonical.{canonical_request}
 use Rattle.client_msgs.specs.Reading.{request_of}
-use Rattle.client_msgs.specs.declared.fault.RequestFault.{RequestFault}
-use Rattle.client_msgs.specs.declared.fault.RequestFault.TheVariants as faults
 use Rattle.group_quorum.specs.Conf.{Conf}
 use Rattle.group_quorum.specs.Voters.{is_in, insert_rising}
 use Rattle.replica_model.specs.Path.{Path, Link, last_term}
 use Rattle.replica_model.specs.Enough.{met_by_both}
-use Rattle.replica_model.specs.Message.{plain}
-use Rattle.replica_model.specs.Replica.{Role, Learner, Follower, Candidate, Leader, Leading, Replica, Named, nothing_named}
+use Rattle.replica_model.specs.Message.{Message, plain}
+use Rattle.replica_model.specs.Replica.{Role, Candidate, Leader, Leading, Replica, Named}
 use Rattle.replica_model.specs.Peers.{others, voters_counted}
 use Rattle.replica_model.specs.Call.{Call, still, says, empty_batch}
-use Rattle.replica_model.specs.Raise.{pushed, raise_and_send}
-use Rattle.replica_model.specs.Votes.{is_elected, leading_anew, led, win, stood, asks_votes, stands, stand, as_new, vote_asked, counted, with_vote, vote_heard}
-use Rattle.replica_model.specs.Clients.{asked, is_busy, request_heard, valid_request, on_request, client_request}
+use Rattle.replica_model.specs.Raise.{pushed}
+use Rattle.replica_model.specs.Votes.{is_elected, leading_anew, led, win, stood, asks_votes, stands, stand, as_new, vote_asked, with_vote, vote_heard}
+use Rattle.replica_model.specs.Clients.{asked, client_request}
 use Rattle.group_model.specs.Log.{IsFrontOf}
 use Rattle.path_machine.specs.Node as node
-use Rattle.path_machine.specs.Node.{Node, Outcome, with_value}
 use Rattle.path_machine.specs.Machine.{Machine, In}
 use Rattle.path_machine.specs.Changes.{is_single_change}
 use Rattle.path_machine.proofs.Changes.{single_change_overlaps}
 use Rattle.path_machine.proofs.Counted.{both_more}
 use Rattle.path_laws.proofs.Goes.{reached_laws, wins, pushes, takes_message}
 use Rattle.path_laws.proofs.Goes as goes
-use Rattle.halt_laws.proofs.Alike.{kind, node_as, VoteFits, LeadingFits, RoleFits, MsgFits, SentFits, On, At, Is}
-use Rattle.halt_laws.proofs.Onward.{own_term, IsHolder, no_learner, holder_first, known_of, here_as, Going, onward, turned, says_went}
+use Rattle.halt_laws.proofs.Alike.{kind, node_as, VoteFits, LeadingFits, RoleFits, MsgFits, On, At, Is}
+use Rattle.halt_laws.proofs.Onward.{own_term, no_learner, holder_first, known_of, here_as, Going, onward, turned, says_went}
 use Rattle.halt_laws.proofs.Raising.{led_node, lead_at, raise_went}
 use Rattle.halt_laws.proofs.Leading.{anew_fits, pushed_fits}
 
@@ -128,18 +126,14 @@ module _ (link : Link) (first : Conf) (holds : ℕ → Bool) (Held : Path → Ty
       onward link first holds Held w v c c' f1 (node.pushed n1 Noop) (node.Accepted s.term v (s.path ++ e ∷ []) ∷ []) p.0 p.1 refl (closed s.path (s.path ++ e ∷ []) (e ∷ [], refl)) (λ held x. x) (λ t same. inl same) refl in
       raise_went link first holds Held w v c' l f2 refl
 
-  asks_fit : (messages : List node.Message) (m : PeerMsg) → ((to : ℕ) → MsgFits link first Held messages v to nothing_named m) → (ids : List ℕ) → SentFits link first Held messages v (map (λ u. (u, plain m)) ids)
-  asks_fit messages m fits [] = tt
-  asks_fit messages m fits (u ∷ ids) = (fits u, asks_fit messages m fits ids)
-
   -- stand for election
   pub stand_went : (s : Replica) → (node.is_learner (kind s.role) || node.is_leader (kind s.role)) ≡ false → IsHolder s.role → Going link first holds Held w v (still s) → Going link first holds Held w v (stand s)
-  stand_went s may holder f = cond_both _ (stands (stood s)) (still s) (Going link first holds Held w v)
+  stand_went s behind holder f = may.stand_by (Going link first holds Held w v) s f
       (λ b.
       let a = f.at in
       let n : Node = node_as (kind s.role) s.term s.path s.promised s.committed a.voted a.votes a.marks in
       let said : List node.Message = node.AskVote (s.term + 1) v s.path ∷ node.Vote (s.term + 1) v v s.path ∷ [] in
-      let g : On first holds f.now v (node.stood v n) said [] = goes.stands first is_single_change single_change_overlaps holds f.now v n a.reached a.here may in
+      let g : On first holds f.now v (node.stood v n) said [] = goes.stands first is_single_change single_change_overlaps holds f.now v n a.reached a.here behind in
       let s' : Replica = stood s in
       let theirs = holder_first first s.first s.path s.committed s.role a.votes a.marks holder a.acts in
       let some = a.some in
@@ -156,13 +150,12 @@ module _ (link : Link) (first : Conf) (holds : ℕ → Bool) (Held : Path → Ty
         vote_is = inr (subst (λ k. 0 < k) (sym a.mine) some, ap Some (sym a.mine));
         acts = (theirs, λ u heard. mine_alone s.me a.mine u heard);
         awake = a.awake;
-      } in
-      cond_both (is_elected s' (s.me ∷ [])) (win s') (asks_votes s') (Going link first holds Held w v)
-      (λ elected. win_went s' (s.me ∷ []) refl elected (turned link first holds Held w v s s' f (node.stood v n) said g stood_at (λ held. held)))
-      (λ b. onward link first holds Held w v (still s) (asks_votes s') f (node.stood v n) said g stood_at refl (λ held. held)
-      (λ held x. asks_fit g.machine.history.messages (AskVote (s.term + 1) (length s.path) (last_term s.path)) (λ to. (s.path, g.said (node.AskVote (s.term + 1) v s.path) (inl refl), refl, refl)) (others s.me (voters_counted s')))
-      (λ t same. inl same) refl))
-      (λ b. f)
+      } in (
+        λ elected. win_went s' (s.me ∷ []) refl elected (turned link first holds Held w v s s' f (node.stood v n) said g stood_at (λ held. held)),
+        onward link first holds Held w v (still s) (asks_votes s') f (node.stood v n) said g stood_at refl (λ held. held)
+            (λ held x. same_to_each (λ (m : ℕ × Message). MsgFits link first Held g.machine.history.messages v m.0 m.1.names m.1.msg) (plain (AskVote (s.term + 1) (length s.path) (last_term s.path))) (λ to. (s.path, g.said (node.AskVote (s.term + 1) v s.path) (inl refl), refl, refl)) (others s.me (voters_counted s')))
+            (λ t same. inl same) refl,
+      ))
     where
       mine_alone : (me : ℕ) → me ≡ v → (u : ℕ) → is_in (me ∷ []) u ≡ true → with_value (λ x. false) v true u ≡ true
       mine_alone me is u heard = elim (or_cases (me == u) false heard) [
@@ -172,7 +165,7 @@ module _ (link : Link) (first : Conf) (holds : ℕ → Bool) (Held : Path → Ty
 
   -- vote asked
   pub vote_asked_went : (s : Replica) → IsHolder s.role → (from last_index last : ℕ) (names : Named) → 0 < from → (f : Going link first holds Held w v (still s)) → MsgFits link first Held f.now.history.messages from v names (AskVote s.term last_index last) → Going link first holds Held w v (vote_asked s from last_index last)
-  vote_asked_went s holder from last_index last names some f k = cond_both ((s.vote == 0 || s.vote == from) && as_new s.path last_index last) _ _ (Going link first holds Held w v)
+  vote_asked_went s holder from last_index last names some f k = may.vote_asked_by (Going link first holds Held w v) s from last_index last
       (λ ok.
       let a = f.at in
       let n : Node = node_as (kind s.role) s.term s.path s.promised s.committed a.voted a.votes a.marks in
@@ -190,19 +183,11 @@ module _ (link : Link) (first : Conf) (holds : ℕ → Bool) (Held : Path → Ty
       refl (λ held. held)
       (λ held x. (λ yes. (p, g.said (node.Vote s.term v from p) (inl refl)), tt))
       (λ t same. inl same) refl)
-      (λ apart. says_went link first holds Held w v (still s) f from (plain (Vote s.term false)) (λ held yes. absurd (let apart : false ≡ true = yes in cc)))
-
-  counted_went : (s : Replica) (votes : List ℕ) → Going link first holds Held w v (still (record s { role = Candidate votes })) → Going link first holds Held w v (counted s votes)
-  counted_went s votes f = cond_both (is_elected s votes) (win (record s { role = Candidate votes })) (still (record s { role = Candidate votes })) (Going link first holds Held w v)
-      (λ elected. win_went (record s { role = Candidate votes }) votes refl elected f)
-      (λ b. f)
+      (says_went link first holds Held w v (still s) f from (plain (Vote s.term false)) (λ held yes. absurd (let apart : false ≡ true = yes in cc)))
 
   -- vote heard
-  pub vote_heard_went : (s : Replica) (role : Role) → s.role ≡ role → (from : ℕ) (granted : Bool) (names : Named) → (f : Going link first holds Held w v (still s)) → MsgFits link first Held f.now.history.messages from v names (Vote s.term granted) → Going link first holds Held w v (vote_heard s role from granted)
-  vote_heard_went s (Learner taking) is from granted names f k = f
-  vote_heard_went s Follower is from granted names f k = f
-  vote_heard_went s (Leader l) is from granted names f k = f
-  vote_heard_went s (Candidate votes) is from granted names f k = cond_both granted (counted s (with_vote s votes from)) (still s) (Going link first holds Held w v)
+  pub vote_heard_went : (s : Replica) (votes : List ℕ) → s.role ≡ Candidate votes → (from : ℕ) (granted : Bool) (names : Named) → (f : Going link first holds Held w v (still s)) → MsgFits link first Held f.now.history.messages from v names (Vote s.term granted) → Going link first holds Held w v (vote_heard s (Candidate votes) from granted)
+  vote_heard_went s votes is from granted names f k = may.vote_heard_by (Going link first holds Held w v) s f votes from granted
       (λ yes.
       let a = f.at in
       let of_first = subst (λ r. RoleFits first s.first s.path s.committed r a.votes a.marks) is a.acts in
@@ -213,8 +198,8 @@ module _ (link : Link) (first : Conf) (holds : ℕ → Bool) (Held : Path → Ty
       let does : node.takes v n false m ≡ node.quiet t = own_term v n false m refl refl ∙ cond-true (v == v && true) (node.quiet t) (node.quiet n) (and_from (v == v) true (eq-eqb v v refl) refl) in
       let g : On first holds f.now v t [] [] = takes_message first is_single_change single_change_overlaps holds f.now v n a.reached (here_as first holds f.now v s a (Candidate votes) is) false m (node.quiet t) o.1 (not_above s.term) does in
       let s' : Replica = record s { role = Candidate (with_vote s votes from) } in
-      counted_went s (with_vote s votes from)
-      (turned link first holds Held w v s s' f t [] g
+      let counted_at : Going link first holds Held w v (still s') =
+      turned link first holds Held w v s s' f t [] g
       (record {
         reached = g.reached;
         voted = a.voted;
@@ -237,33 +222,15 @@ module _ (link : Link) (first : Conf) (holds : ℕ → Bool) (Held : Path → Ty
         );
         awake = a.awake;
       })
-      (λ held. held)))
-      (λ b. f)
+      (λ held. held) in
+      (λ elected. win_went s' (with_vote s votes from) refl elected counted_at, counted_at))
 
   -- a client's request
-  request_went : (s : Replica) (role : Role) → s.role ≡ role → (client : ClientId) (number : ℕ) (request : Request) → Going link first holds Held w v (still s) → Going link first holds Held w v (request_heard s role client number request)
-  request_went s (Learner taking) is client number request f = f
-  request_went s Follower is client number request f = f
-  request_went s (Candidate votes) is client number request f = f
-  request_went s (Leader l) is client number request f = cond_both (is_busy s) _ (raise_and_send (still (asked s client number request)) l) (Going link first holds Held w v)
-      (λ busy. f)
-      (λ b.
+  pub client_went : (s : Replica) (client : ClientId) (number : ℕ) (bytes : List ℕ) → Going link first holds Held w v (still s) → Going link first holds Held w v (client_request s client number bytes)
+  client_went s client number bytes f = may.on_request_by (Going link first holds Held w v) s client number (request_of bytes) f (λ why. f)
+      (λ l request read is.
       let body : Body = Ask client number (canonical_request request) in
       let e : LogEntry = record { term = s.term; body = body } in
       let p = pushing f.now s l l f.at is (known_of first holds f.now v s f.at l is).1 body refl s.role is in
       raise_went link first holds Held w v (still (asked s client number request)) l
       (turned link first holds Held w v s (asked s client number request) f _ _ p.0 p.1 (closed s.path (s.path ++ e ∷ []) (e ∷ [], refl))) is)
-
-  valid_went : (s : Replica) (halted : Option (ℕ × Hash × Hash)) (client : ClientId) (number : ℕ) (request : Request) → Going link first holds Held w v (still s) → Going link first holds Held w v (valid_request s halted client number request)
-  valid_went s (Some d) client number request f = f
-  valid_went s None client number request f = request_went s s.role refl client number request f
-
-  on_request_went : (s : Replica) (client : ClientId) (number : ℕ) (r : Result Request RequestFault) → Going link first holds Held w v (still s) → Going link first holds Held w v (on_request s client number r)
-  on_request_went s client number (Ok request) f = valid_went s s.halted client number request f
-  on_request_went s client number (Err faults.Memory) f = f
-  on_request_went s client number (Err (faults.Wire fault)) f = f
-  on_request_went s client number (Err faults.Nothing) f = f
-  on_request_went s client number (Err (faults.Size part size)) f = f
-
-  pub client_went : (s : Replica) (client : ClientId) (number : ℕ) (bytes : List ℕ) → Going link first holds Held w v (still s) → Going link first holds Held w v (client_request s client number bytes)
-  client_went s client number bytes f = on_request_went s client number (request_of bytes) f

@@ -1,7 +1,5 @@
 -- What one replica does keeps a run beside the machine.
 use Rattle.std.proofs.Common.{◌≡◌, ℕ, ◌<◌, ◌==◌, Bool, true, false, inl, inr, Option, Some, None, List, ◌∷◌, ◌++◌, refl, subst, arith}
-use Rattle.std.specs.Prelude.{unwrap_or, nat_le}
-use Rattle.std.specs.List.{AllByRecursion}
 use Rattle.std.proofs.lemmas.Bool.{or_left, or_parts, eq-eqb}
 use Rattle.std.proofs.lemmas.List.{append-nil}
 use Rattle.group_quorum.specs.Conf.{Conf}
@@ -11,8 +9,8 @@ use Rattle.replica_model.specs.Keyed.{value_at}
 use Rattle.replica_model.specs.Replica.{Replica, learner}
 use Rattle.replica_model.specs.Message.{Message}
 use Rattle.replica_model.specs.Call.{still}
-use Rattle.group_model.specs.Enclave.{Learn, started, HostInput, Tick, Peer, Client, Join, Admit, Remove, Save, Roll, Connect, Margin, Enclave, Called, called}
-use Rattle.group_model.specs.Group.{Setup, Sent, Answered, numbered, but, core_of, saves_of, is_client}
+use Rattle.group_model.specs.Enclave.{Learn, started, HostInput, Peer, Enclave, Called, called}
+use Rattle.group_model.specs.Group.{Sent}
 use Rattle.group_model.specs.Run.{Recorded, Enclaves, moves, newly, start_enclave}
 use Rattle.log_laws.proofs.Chain.{NoCollisionIn}
 use Rattle.log_laws.proofs.History.{with_call, HeldIn, held_shorter}
@@ -25,16 +23,8 @@ use Rattle.halt_laws.proofs.Moving.{Simulated, moves_simulated}
 
 -- the same over a larger history
 handed_more : (link : Link) (first : Conf) (Held Larger : Path → Type 0) → ((p : Path) → Held p → Larger p) → (messages : List node.Message) (v : ℕ) (input : HostInput Message) → HostInputFits link first Held messages v input → HostInputFits link first Larger messages v input
-handed_more link first Held Larger larger messages v Tick x = x
 handed_more link first Held Larger larger messages v (Peer from to m) x = (x.0, msg_more link first Held Larger larger messages messages (λ y h. h) from v m.names m.msg x.1)
-handed_more link first Held Larger larger messages v (Client client number request) x = x
-handed_more link first Held Larger larger messages v (Join id) x = x
-handed_more link first Held Larger larger messages v (Admit id) x = x
-handed_more link first Held Larger larger messages v (Remove id) x = x
-handed_more link first Held Larger larger messages v Save x = x
-handed_more link first Held Larger larger messages v (Roll state) x = x
-handed_more link first Held Larger larger messages v (Connect id) x = x
-handed_more link first Held Larger larger messages v (Margin margin) x = x
+handed_more link first Held Larger larger messages v other x = x
 
 module _ (link : Link) (first : Conf) (holds : ℕ → Bool) (started' : List ℕ) (messages : List (Sent Message)) (f : Enclaves) (k : Simulated link first holds started' messages f) where
   -- a replica that runs is recorded as it was

@@ -1,26 +1,25 @@
 -- What a leader hears of its appends and its tables, its timer, and what a learner takes, are moves of the node.
-use Rattle.std.proofs.Common.{◌≡◌, ℕ, ◌+◌, ◌<◌, ◌≤◌, ◌⊎◌, inl, inr, Bool, true, false, cond, ◌&&◌, ◌||◌, ◌==◌, nat_lt, nat_le, min, max, Option, Some, None, List, [], ◌∷◌, ◌++◌, length, take, refl, sym, ap, ◌∙◌, subst, arith}
+use Rattle.step_walk.proofs.Outcomes as may
+use Rattle.step_walk.proofs.Outcomes.{again_by}
+use Rattle.std.proofs.Common.{◌≡◌, ℕ, ◌+◌, ◌<◌, ◌≤◌, inl, inr, Bool, false, ◌==◌, nat_lt, min, max, Option, Some, None, List, [], ◌∷◌, length, take, refl, sym, ap, ◌∙◌, subst, arith}
 use Rattle.std.specs.Prelude.{filter_map, option_map}
 use Rattle.std.specs.List.{cons_option}
-use Rattle.std.proofs.lemmas.Bool.{cond_both, cond-true, and_parts, and_from, cases_eq, cases_Bool, eq-eqb, le-leb, le-ltb, ltb-false, ltb-true}
+use Rattle.std.proofs.lemmas.Bool.{cond_both, cond-true, and_parts, cases_Bool, eq-eqb, le-leb, le-ltb, ltb-false, ltb-true}
 use Rattle.std.proofs.lemmas.List.{length-take-le}
 use Rattle.values.specs.declared.entry.Point.{Point}
 use Rattle.values.specs.declared.peer.TablePart.{TablePart}
-use Rattle.values.specs.declared.peer.PeerMsg.{PeerMsg}
-use Rattle.values.specs.declared.peer.PeerMsg.TheVariants.{AskVote, Vote, Append, Accepted, Rejected, Part, PartTaken}
+use Rattle.values.specs.declared.peer.PeerMsg.TheVariants.{Part}
 use Rattle.group_quorum.specs.Conf.{Conf}
-use Rattle.group_quorum.specs.Voters.{is_in}
 use Rattle.replica_model.specs.declared.Progress.{Progress}
-use Rattle.replica_model.specs.Path.{Path, Link, end_point, same_point}
+use Rattle.replica_model.specs.Path.{Path, Link}
 use Rattle.replica_model.specs.Keyed.{value_at, has, put, without}
-use Rattle.replica_model.specs.Message.{Message, plain}
-use Rattle.replica_model.specs.Replica.{Named, Sending, Taking, Role, Learner, Follower, Candidate, Leader, Leading, Replica}
+use Rattle.replica_model.specs.Message.{Message}
+use Rattle.replica_model.specs.Replica.{Named, Sending, Taking, Learner, Leader, Leading, Replica}
 use Rattle.replica_model.specs.Peers.{is_peer, peers, progress_of, with_progress, leads_with}
 use Rattle.replica_model.specs.Call.{Call, still}
-use Rattle.replica_model.specs.Raise.{raise, to_every_peer}
 use Rattle.replica_model.specs.Graft.{matches}
-use Rattle.replica_model.specs.Heard.{to_peer, accepted_upto, after_raise, accepted_by, accepted_heard, sent_from, rejected_by, rejected_heard}
-use Rattle.replica_model.specs.Tables.{parts_of, rows_of, named_by, part_message, is_taken, taken_with, expects, takes_whole, takes, take_part, learner_hears, part_heard, sends_next, sending_done, sending_heard, taken_by, part_taken}
+use Rattle.replica_model.specs.Heard.{accepted_upto, accepted_heard, rejected_heard}
+use Rattle.replica_model.specs.Tables.{part_message, taken_with, takes_whole, take_part, sends_next, part_taken}
 use Rattle.replica_model.specs.Ticks.{sent_again, all_again, parts_again, leader_tick}
 use Rattle.group_model.specs.Log.{IsFrontOf}
 use Rattle.log_laws.proofs.Chain.{NoCollisionIn, same_points}
@@ -56,17 +55,12 @@ module _ (link : Link) (first : Conf) (holds : ℕ → Bool) (Held : Path → Ty
     promised_fits : s.promised ≤ length s.path
     promised_fits = (reached_laws first is_single_change single_change_overlaps holds f.now f.at.reached).promised_held v n stands
 
-    raised_went : (c : Call) (l' : Leading) (u : ℕ) → Going link first holds Held w v c → Going link first holds Held w v (after_raise s c l' u)
-    raised_went c l' u fine = cond_both (nat_lt s.promised c.state.promised || nat_lt s.committed c.state.committed) (to_every_peer c l') _ (Going link first holds Held w v)
-        (λ b. fine)
-        (λ b. cond_both (nat_le (progress_of l' u).next (length s.path)) (to_peer c u) c (Going link first holds Held w v) (λ b. fine) (λ b. fine))
-
     -- accepted heard
-    accepted_at : Held s.path → (from : ℕ) (end : Point) (promised : ℕ) → AcceptedFits link Held f.now.history.messages s.term from end → Going link first holds Held w v (accepted_heard link s (Leader l) from end promised)
+    pub accepted_at : Held s.path → (from : ℕ) (end : Point) (promised : ℕ) → AcceptedFits link Held f.now.history.messages s.term from end → Going link first holds Held w v (accepted_heard link s (Leader l) from end promised)
     accepted_at mine from end promised x =
         let p : Progress = accepted_upto (progress_of l from) end.index promised in
         let l' : Leading = with_progress l from p in
-        cond_both (is_peer s l from && matches link s end) (accepted_by s l' from) (still s) (Going link first holds Held w v)
+        may.accepted_heard_by (Going link first holds Held w v) link s f l from (λ c done. done) end promised (λ done. done)
         (λ b.
         let at = matches_is link s end (and_parts (is_peer s l from) (matches link s end) b).1 in
         let same : take end.index s.path ≡ x.path =
@@ -92,8 +86,7 @@ module _ (link : Link) (first : Conf) (holds : ℕ → Bool) (Held : Path → Ty
         let f1 : Going link first holds Held w v (still (leads_with s l')) = turned link first holds Held w v s (leads_with s l') f t [] g
         (lead_at first holds g.machine v s.me s.first s.path s.base s.promised s.committed s.term s.vote (Leader l') s.halted l' refl g.reached f.at.voted f.at.votes marks g.here f.at.mine f.at.some f.at.based f.at.vote_is known.0 fits' f.at.awake)
         (λ held. held) in
-        raised_went (raise (still (leads_with s l')) l') l' from (raise_went link first holds Held w v (still (leads_with s l')) l' f1 refl))
-        (λ b. f)
+        raise_went link first holds Held w v (still (leads_with s l')) l' f1 refl)
 
     -- the replica leads with this, and nothing else moves
     leading_on : (l' : Leading) → LeadingFits s.path s.committed l' f.at.marks → Going link first holds Held w v (still (leads_with s l'))
@@ -104,18 +97,11 @@ module _ (link : Link) (first : Conf) (holds : ℕ → Bool) (Held : Path → Ty
     next_put marks l' u next fits le = put_fits s.path s.committed l' marks marks u (record (progress_of l' u) { next = next }) le (fits.mark_fits u) (fits.marked u) (λ x. omega arith) fits
 
     -- rejected heard
-    rejected_at : (from hint : ℕ) → Going link first holds Held w v (rejected_heard s (Leader l) from hint)
+    pub rejected_at : (from hint : ℕ) → Going link first holds Held w v (rejected_heard s (Leader l) from hint)
     rejected_at from hint =
         let l' : Leading = record l { sendings = without l.sendings from } in
         let fits : LeadingFits s.path s.committed l' f.at.marks = sending_gone s.path s.committed l f.at.marks from known.1 in
-        let next : ℕ = min hint (length s.path) + 1 in
-        cond_both (is_peer s l from) (rejected_by s l' from hint) (still s) (Going link first holds Held w v)
-        (λ b. cond_both (nat_lt hint s.base) (still (leads_with s l')) (sent_from s l' from next) (Going link first holds Held w v)
-        (λ b. leading_on l' fits)
-        (λ b. cond_both (next == (progress_of l' from).next) (still (leads_with s l')) _ (Going link first holds Held w v)
-        (λ b. leading_on l' fits)
-        (λ b. leading_on (with_progress l' from (record (progress_of l' from) { next = next })) (next_put f.at.marks l' from next fits (omega arith)))))
-        (λ b. f)
+        may.rejected_heard_by (Going link first holds Held w v) link s f l from (λ c done. done) hint (leading_on l' fits) (leading_on _ (next_put f.at.marks l' from (min hint (length s.path) + 1) fits (omega arith)))
 
     -- the next part goes out
     next_went : (from : ℕ) (on : Sending) → length on.path ≤ s.committed → take (length on.path) s.path ≡ on.path → Going link first holds Held w v (sends_next link s l from on)
@@ -131,33 +117,23 @@ module _ (link : Link) (first : Conf) (holds : ℕ → Bool) (Held : Path → Ty
         (λ t is'. inl is') refl
 
     -- what was taken of a table
-    sending_went : (from : ℕ) (sending : Sending) (next parts : ℕ) → length sending.path ≤ s.committed → take (length sending.path) s.path ≡ sending.path → Going link first holds Held w v (sending_heard link s l from sending next parts)
-    sending_went from sending next parts le same =
+    pub taken_at : (from : ℕ) (point : Point) (next : ℕ) → Going link first holds Held w v (part_taken link s (Leader l) from point next)
+    taken_at from point next = may.part_taken_by (Going link first holds Held w v) link s f l from (λ c done. done) point next
+        (λ sending has.
         let l' : Leading = record l { sendings = without l.sendings from } in
-        cond_both (next == parts) (sending_done s l from (length sending.path)) _ (Going link first holds Held w v)
-        (λ b. leading_on (with_progress l' from (record (progress_of l' from) { next = length sending.path + 1 }))
-        (next_put f.at.marks l' from (length sending.path + 1) (sending_gone s.path s.committed l f.at.marks from known.1) (omega (arith, le, within, promised_fits))))
-        (λ b. cond_both (nat_lt sending.part next && nat_lt next parts) (sends_next link s l from (record sending { part = next })) (still s) (Going link first holds Held w v)
-        (λ b. next_went from (record sending { part = next }) le same)
-        (λ b. f))
-
-    taken_at : (from : ℕ) (o : Option Sending) (point : Point) (next : ℕ) → value_at l.sendings from ≡ o → Going link first holds Held w v (taken_by link s l from o point next)
-    taken_at from None point next stood = f
-    taken_at from (Some sending) point next stood = cond_both (same_point point (end_point link sending.path)) _ (still s) (Going link first holds Held w v)
-        (λ b. let x = known.1.sendings from sending stood in sending_went from sending next (parts_of (rows_of (named_by s sending.path))) x.0 x.1)
-        (λ b. f)
+        let x = known.1.sendings from sending has in (
+          leading_on _ (next_put f.at.marks l' from (length sending.path + 1) (sending_gone s.path s.committed l f.at.marks from known.1) (omega (arith, x.0, within, promised_fits))),
+          λ later. next_went from (record sending { part = next }) x.0 x.1,
+        ))
 
     -- a leader's tick
-    again_fits : (marks : ℕ → ℕ) (us : List ℕ) (l' : Leading) → LeadingFits s.path s.committed l' marks → LeadingFits s.path s.committed (all_again s l' us) marks
-    again_fits marks [] l' fits = fits
-    again_fits marks (u ∷ us) l' fits = again_fits marks us _ (cond_both (has l'.sendings u) l' (with_progress l' u (sent_again s (progress_of l' u))) (λ x. LeadingFits s.path s.committed x marks)
-        (λ b. fits)
-        (λ b. cond_both ((progress_of l' u).mark == 0) (progress_of l' u) (record (progress_of l' u) { next = max (progress_of l' u).mark s.base + 1 }) (λ p. LeadingFits s.path s.committed (with_progress l' u p) marks)
+    again_fits : (marks : ℕ → ℕ) (l' : Leading) (u : ℕ) → LeadingFits s.path s.committed l' marks → LeadingFits s.path s.committed (with_progress l' u (sent_again s (progress_of l' u))) marks
+    again_fits marks l' u fits = cond_both ((progress_of l' u).mark == 0) (progress_of l' u) (record (progress_of l' u) { next = max (progress_of l' u).mark s.base + 1 }) (λ p. LeadingFits s.path s.committed (with_progress l' u p) marks)
         (λ b. put_fits s.path s.committed l' marks marks u (progress_of l' u) (fits.next_fits u) (fits.mark_fits u) (fits.marked u) (λ x. omega arith) fits)
         (λ b.
         let mark_fits = fits.mark_fits u in
         let based = f.at.based in
-        next_put marks l' u (max (progress_of l' u).mark s.base + 1) fits (omega (arith, within, promised_fits)))))
+        next_put marks l' u (max (progress_of l' u).mark s.base + 1) fits (omega (arith, within, promised_fits)))
 
     -- the call with these parts sent
     abbrev handed : List (ℕ × Message) → Call
@@ -182,40 +158,11 @@ module _ (link : Link) (first : Conf) (holds : ℕ → Bool) (Held : Path → Ty
     parts_went [] = f
     parts_went (u ∷ us) = one_part u (value_at l.sendings u) (filter_map (λ x. option_map (λ sending. (x, part_message link s sending)) (value_at l.sendings x)) us) refl (parts_went us)
 
-    tick_at : Going link first holds Held w v (leader_tick link s l)
+    pub tick_at : Going link first holds Held w v (leader_tick link s l)
     tick_at =
         let h = parts_went (peers s l) in
         let known' = known_of first holds h.now v s h.at l is in
-        leads_on link first holds Held w v (handed (parts_again link s l)) l (all_again s l (peers s l)) h is (again_fits h.at.marks (peers s l) l known'.1)
-
-  pub leader_tick_went : (l : Leading) → s.role ≡ Leader l → Going link first holds Held w v (leader_tick link s l)
-  leader_tick_went l is = tick_at l is
-
-  pub accepted_went : Held s.path → (role : Role) → s.role ≡ role → (from : ℕ) (end : Point) (promised : ℕ) → AcceptedFits link Held f.now.history.messages s.term from end → Going link first holds Held w v (accepted_heard link s role from end promised)
-  accepted_went mine (Learner taking) is from end promised x = f
-  accepted_went mine Follower is from end promised x = f
-  accepted_went mine (Candidate votes) is from end promised x = f
-  accepted_went mine (Leader l) is from end promised x = accepted_at l is mine from end promised x
-
-  pub rejected_went : (role : Role) → s.role ≡ role → (from hint : ℕ) → Going link first holds Held w v (rejected_heard s role from hint)
-  rejected_went (Learner taking) is from hint = f
-  rejected_went Follower is from hint = f
-  rejected_went (Candidate votes) is from hint = f
-  rejected_went (Leader l) is from hint = rejected_at l is from hint
-
-  pub taken_went : (role : Role) → s.role ≡ role → (from : ℕ) (point : Point) (next : ℕ) → Going link first holds Held w v (part_taken link s role from point next)
-  taken_went (Learner taking) is from point next = f
-  taken_went Follower is from point next = f
-  taken_went (Candidate votes) is from point next = f
-  taken_went (Leader l) is from point next =
-      cond_both (is_in l.learners from) _ (still s) (Going link first holds Held w v)
-      (λ b. taken_at l is from (value_at l.sendings from) point next refl)
-      (λ b. f)
-
-  pub part_heard_went : (from : ℕ) (part : TablePart) → Going link first holds Held w v (part_heard link s from part)
-  part_heard_went from part = cond_both (matches link s part.point) _ _ (Going link first holds Held w v)
-      (λ b. says_went link first holds Held w v (still s) f from (plain (PartTaken s.term part.point part.parts)) (λ held. tt))
-      (λ b. says_went link first holds Held w v (still s) f from (plain (Rejected s.term part.point.index (cond (nat_lt (length s.path) part.point.index) (length s.path) s.promised))) (λ held. tt))
+        leads_on link first holds Held w v (handed (parts_again link s l)) l (all_again s l (peers s l)) h is (again_by (λ l. LeadingFits s.path s.committed l h.at.marks) s (again_fits h.at.marks) (peers s l) l known'.1)
 
   module _ (mine : Held s.path) (t : Taking) (is : s.role ≡ Learner t) where
     -- with the last part a learner holds a table's path
@@ -253,12 +200,12 @@ module _ (link : Link) (first : Conf) (holds : ℕ → Bool) (Held : Path → Ty
 
     part_went : (from term : ℕ) (part : TablePart) (names : Named) → term ≤ s.term → In (node.Part term names.path) f.now.history.messages → names.first ≡ first → Going link first holds Held w v (take_part link s t from part names)
     part_went from term part names low stands of_first =
-        let t' : Taking = taken_with t part names in
-        cond_both (is_taken link t part) (takes link s from t' part names) _ (Going link first holds Held w v)
-        (λ b. cond_both (part.part + 1 == part.parts) (takes_whole link s from part names t'.names.limit) (expects link (record s { role = Learner t' }) from t') (Going link first holds Held w v)
-        (λ b. whole_went from t'.names.limit term part names low stands of_first)
-        (λ b. says_went link first holds Held w v (still (record s { role = Learner t' })) (taking_went t') from _ (λ held. tt)))
-        (λ b. says_went link first holds Held w v (still s) f from _ (λ held. tt))
+        may.take_part_by (Going link first holds Held w v) link s t from part names
+        (λ b. (
+          whole_went from (taken_with t part names).names.limit term part names low stands of_first,
+          says_went link first holds Held w v (still (record s { role = Learner (taken_with t part names) })) (taking_went (taken_with t part names)) from _ (λ held. tt),
+        ))
+        (says_went link first holds Held w v (still s) f from _ (λ held. tt))
 
 module _ (link : Link) (first : Conf) (holds : ℕ → Bool) (Held : Path → Type 0) (closed : (p w : Path) → IsFrontOf p w → Held w → Held p) (none : NoCollisionIn link Held) (w : Machine) (v : ℕ) (s : Replica) (f : Going link first holds Held w v (still s)) (mine : Held s.path) (t : Taking) (is : s.role ≡ Learner t) where
   -- a learner takes the term alone
@@ -294,13 +241,7 @@ module _ (link : Link) (first : Conf) (holds : ℕ → Bool) (Held : Path → Ty
   ]
 
   -- a learner takes parts alone
-  pub learner_went : (from : ℕ) (names : Named) (msg : PeerMsg) → MsgFits link first Held w.history.messages from v names msg → Going link first holds Held w v (learner_hears link s t from names msg)
-  learner_went from names (AskVote term last_index last_term) x = f
-  learner_went from names (Vote term granted) x = f
-  learner_went from names (Append term prev entries promise commit) x = f
-  learner_went from names (Accepted term end promised) x = f
-  learner_went from names (Rejected term asked hint) x = f
-  learner_went from names (Part term part) x =
+  pub learner_went : (from : ℕ) (names : Named) (term : ℕ) (part : TablePart) → MsgFits link first Held w.history.messages from v names (Part term part) → Going link first holds Held w v (take_part link (record s { term = max s.term term }) t from part names)
+  learner_went from names term part x =
       let h = learner_rises term in
       part_went link first holds Held closed none w v (record s { term = max s.term term }) h mine t is from term part names (omega arith) (h.later.messages (node.Part term names.path) x.0) x.1
-  learner_went from names (PartTaken term point next) x = f

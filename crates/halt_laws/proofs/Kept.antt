@@ -20,7 +20,7 @@ use Rattle.group_model.specs.Halts.{LedIn, HoldsEnough, PromiseLies, HaltLaws, N
 use Rattle.log_laws.proofs.Chain.{NoCollisionIn}
 use Rattle.log_laws.proofs.History.{with_call, HeldIn, all_more, none_larger}
 use Rattle.log_laws.proofs.Moving.{all_numbered}
-use Rattle.event_walk.specs.Cases.{Handing, Ticked, Saved, Joins, Admits, Removes, Margins, Delivered, Asked, Said, handed, Survives}
+use Rattle.event_walk.specs.Cases.{Handing, Delivered, handed, Survives}
 use Rattle.event_walk.proofs.Walk as walk
 use Rattle.path_machine.specs.Machine.{Machine, In}
 use Rattle.path_machine.specs.Laws as machine
@@ -59,14 +59,7 @@ module _ (link : Link) (w : World) (k : KeptWorld link w) where
   fits_handed first holds old v (Delivered j m is to) =
       subst (λ u. HostInputFits link first (HeldIn w.field.history) old.machine.history.messages u (Peer m.from m.to m.message)) (sym to)
       (all_numbered (MailFits link first w.field.history old.machine.history.messages) w.messages j m is old.mail)
-  fits_handed first holds old v Ticked = tt
-  fits_handed first holds old v Saved = tt
-  fits_handed first holds old v (Joins id) = tt
-  fits_handed first holds old v (Admits id) = tt
-  fits_handed first holds old v (Removes id) = tt
-  fits_handed first holds old v (Margins margin) = tt
-  fits_handed first holds old v (Asked client number request before is) = tt
-  fits_handed first holds old v (Said client core number request has says) = tt
+  fits_handed first holds old v other = tt
 
   module _ (setup : Setup) (set : w.setup ≡ Some setup) (unrolled : w.rolled ≡ []) where
     abbrev first : Conf

@@ -8,7 +8,7 @@ use Rattle.group_quorum.specs.Conf.{Conf}
 use Rattle.group_quorum.specs.Voters.{is_in}
 use Rattle.replica_model.specs.Path.{Path, Link}
 use Rattle.replica_model.specs.Keyed.{value_at, put, without}
-use Rattle.replica_model.specs.Replica.{Replica, Role, Learner, Follower, Candidate, Leader}
+use Rattle.replica_model.specs.Replica.{Replica, Role, Leader}
 use Rattle.replica_model.specs.Message.{Message}
 use Rattle.group_model.specs.Enclave.{HostInput, Enclave, Called}
 use Rattle.group_model.specs.Group.{Sent, sent_by}
@@ -67,10 +67,8 @@ pub record Simulated (link : Link) (first : Conf) (holds : ℕ → Bool) (starte
   pub recounted : AllByRecursion (Recounted machine (EnoughIn f.history)) f.history
 
 leader_kind : (role : Role) → Leads role → node.is_leader (kind role) ≡ true
-leader_kind (Learner taking) so = absurd so
-leader_kind Follower so = absurd so
-leader_kind (Candidate votes) so = absurd so
 leader_kind (Leader l) so = refl
+leader_kind other so = absurd so
 
 module _ (link : Link) (first : Conf) (holds : ℕ → Bool) (started : List ℕ) (messages : List (Sent Message)) (f : Enclaves) (k : Simulated link first holds started messages f) where
   module _ (started' : List ℕ) (fewer : (u : ℕ) → is_in started' u ≡ false → is_in started u ≡ false) (v : ℕ) (used : is_in started' v ≡ true) (before : Replica) (input : Option (HostInput Message)) (c : Called) (same : c.call.state ≡ c.enclave.replica) (went : Went first holds link (HeldIn (with_call f.history v before input c.call)) k.machine v c.call) where

@@ -1,5 +1,8 @@
 -- An append heard is a move of the node: no replica halts, since the node does not.
-use Rattle.std.proofs.Common.{◌≡◌, ℕ, zero, suc, ◌+◌, ◌-◌, ◌<◌, ◌≤◌, Bool, true, false, cond, ◌&&◌, nat_lt, nat_le, min, max, ◌⊎◌, inl, inr, Option, Some, None, List, [], ◌∷◌, ◌++◌, length, take, drop, refl, sym, ap, ◌∙◌, subst, arith}
+use Rattle.step_walk.proofs.Outcomes.{IsCalm}
+use Rattle.step_walk.specs.Rules.{IsHolder}
+use Rattle.step_walk.proofs.Outcomes as may
+use Rattle.std.proofs.Common.{◌≡◌, ℕ, ◌+◌, ◌-◌, ◌<◌, ◌≤◌, Bool, true, false, cond, ◌&&◌, nat_lt, nat_le, min, max, ◌⊎◌, inl, inr, Option, Some, None, [], ◌∷◌, ◌++◌, length, take, drop, refl, sym, ap, ◌∙◌, subst, arith}
 use Rattle.std.proofs.lemmas.Bool.{cond_both, cond-true, cond-false, and_from, cases_Bool, cases_lt, le-leb, lt-ltb, leb-true}
 use Rattle.std.proofs.lemmas.List.{take-take, take_all, take-append-drop, length-drop, length-take-le}
 use Rattle.std.proofs.lemmas.Option.{same_Some, none-some}
@@ -12,10 +15,10 @@ use Rattle.replica_model.specs.Path.{Path, Link, chain, same_hash}
 use Rattle.replica_model.proofs.Paths.{chain-push}
 use Rattle.replica_model.specs.Replica.{Role, Follower, Replica}
 use Rattle.replica_model.specs.Call.{still, says}
-use Rattle.replica_model.specs.Graft.{hash_at, Offer, points_of, points_from, end_of, Difference, differing, first_difference, kept_length, added, refusal_hint, following, answered, graft, halts, conflict_or_graft, append_heard}
+use Rattle.replica_model.specs.Graft.{hash_at, Offer, points_of, points_from, end_of, Difference, differing, first_difference, kept_length, added, refusal_hint, following, answered, append_heard}
 use Rattle.group_model.specs.Log.{IsFrontOf}
 use Rattle.log_laws.proofs.Chain.{NoCollisionIn}
-use Rattle.log_laws.proofs.Offered.{Grafts, IsCalm, grafts, take_step, hash_cases}
+use Rattle.log_laws.proofs.Offered.{Grafts, grafts, take_step, hash_cases}
 use Rattle.path_machine.specs.Node as node
 use Rattle.path_machine.specs.Node.{Node, Outcome, common}
 use Rattle.path_machine.specs.Machine.{Machine, In}
@@ -25,7 +28,7 @@ use Rattle.path_machine.proofs.Fronts.{common_ge}
 use Rattle.path_machine.proofs.Same.{common_same}
 use Rattle.path_laws.proofs.Goes.{reached_laws, takes_message}
 use Rattle.halt_laws.proofs.Alike.{kind, node_as, AppendFits, On, Is}
-use Rattle.halt_laws.proofs.Onward.{own_term, IsHolder, no_learner, holder_first, Going, onward}
+use Rattle.halt_laws.proofs.Onward.{own_term, no_learner, holder_first, Going, onward}
 use Rattle.halt_laws.proofs.Electing.{not_above}
 
 module _ (link : Link) (s : Replica) where
@@ -201,26 +204,16 @@ module _ (link : Link) (first : Conf) (holds : ℕ → Bool) (Held : Path → Ty
         (λ held old. (record { path = x.path; stands = g.said acc (inl refl); held = x.held; end_is = total; hash_is = ap (chain link) (sym theirs) }, tt))
         (λ t same. inl same) refl
 
-    calm_went : (d : Option Difference) → first_difference link s (points_of link o) ≡ d → IsCalm s d → Going link first holds Held w v (graft link s d o)
-    calm_went d is calm = near (refusal_hint (following s o.from) d o) refl
-      where
-        near : (hint : Option ℕ) → refusal_hint (following s o.from) d o ≡ hint → Going link first holds Held w v (answered link (following s o.from) d o hint)
-        near (Some hint) hinted = refused_went hint
-        near None hinted = grafted_went d is calm hinted
-
     pub append_went : Going link first holds Held w v (append_heard link s o)
-    append_went = judged (first_difference link s (points_of link o)) refl
-      where
-        judged : (d : Option Difference) → first_difference link s (points_of link o) ≡ d → Going link first holds Held w v (conflict_or_graft link s d o)
-        judged None is = calm_went None is tt
-        judged (Some d) is = cond_both (nat_le d.0 s.promised) (halts s d) (graft link s (Some d) o) (Going link first holds Held w v)
-            (λ conflict.
-            let real = found_real d is in
-            let below : d.0 ≤ s.promised = leb-true d.0 s.promised conflict in
-            let early : common s.path x.path < d.0 = elim (cases_lt (common s.path x.path) d.0) [
-              | inl lt ↦ lt
-              | inr ge ↦ absurd (real.1 (common_same d.0 s.path x.path ge))
-            ] in
-            let le = real.0 in
-            absurd (never_halts x.path o.promise o.commit x.stands (and_from (nat_lt (common s.path x.path) s.promised) (nat_lt (common s.path x.path) (length x.path)) (lt-ltb _ _ (omega arith)) (lt-ltb _ _ (omega arith)))))
-            (λ calm. calm_went (Some d) is calm)
+    append_went = may.append_heard_by (Going link first holds Held w v) link s o
+        (λ d is conflict.
+        let real = found_real d is in
+        let below : d.0 ≤ s.promised = leb-true d.0 s.promised conflict in
+        let early : common s.path x.path < d.0 = elim (cases_lt (common s.path x.path) d.0) [
+          | inl lt ↦ lt
+          | inr ge ↦ absurd (real.1 (common_same d.0 s.path x.path ge))
+        ] in
+        let le = real.0 in
+        absurd (never_halts x.path o.promise o.commit x.stands (and_from (nat_lt (common s.path x.path) s.promised) (nat_lt (common s.path x.path) (length x.path)) (lt-ltb _ _ (omega arith)) (lt-ltb _ _ (omega arith)))))
+        (λ d hint is at. refused_went hint)
+        grafted_went

@@ -1,4 +1,5 @@
 -- A call goes on by moves of its node.
+use Rattle.step_walk.specs.Rules.{IsHolder}
 use Rattle.std.proofs.Common.{◌≡◌, ℕ, nat_lt, Bool, true, false, ◌⊎◌, inl, inr, Some, None, List, [], ◌∷◌, refl, sym, ◌∙◌, subst}
 use Rattle.std.proofs.lemmas.Bool.{cond-true, cond-false, eq-eqb}
 use Rattle.std.proofs.lemmas.Option.{none-some}
@@ -25,30 +26,15 @@ pub own_term : (v : ℕ) (s : Node) (r : Bool) (m : node.Message) → node.is_le
 own_term v s r m holds same =
     cond-false (node.is_learner s.role) (node.learns s r m) _ holds ∙ cond-true _ (node.hears v s r m) (node.quiet s) (eq-eqb (node.term_of m) s.term same)
 
--- a replica that holds a log
-abbrev pub IsHolder : Role → Type 0
-IsHolder (Learner taking) = ⊥
-IsHolder Follower = Unit {0}
-IsHolder (Candidate votes) = Unit {0}
-IsHolder (Leader l) = Unit {0}
-
 pub no_learner : (role : Role) → IsHolder role → node.is_learner (kind role) ≡ false
 no_learner (Learner taking) h = absurd h
-no_learner Follower h = refl
-no_learner (Candidate votes) h = refl
-no_learner (Leader l) h = refl
+no_learner other h = refl
 
 pub fallen_kind : (role : Role) → node.fallen (kind role) ≡ kind (followed role)
 fallen_kind (Learner taking) = refl
 fallen_kind Follower = refl
 fallen_kind (Candidate votes) = refl
 fallen_kind (Leader l) = refl
-
-pub followed_holds : (role : Role) → IsHolder role → IsHolder (followed role)
-followed_holds (Learner taking) h = h
-followed_holds Follower h = h
-followed_holds (Candidate votes) h = h
-followed_holds (Leader l) h = h
 
 module _ (first theirs : Conf) (path : Path) (committed : ℕ) where
   -- who holds a log reads it by the first configuration

@@ -1,4 +1,5 @@
 -- A leader raises: each of its moments is noted, and the two indices rise.
+use Rattle.log_laws.proofs.History.{any_left, any_right}
 use Rattle.std.proofs.Common.{◌≡◌, ℕ, ◌+◌, ◌-◌, ◌<◌, ◌≤◌, ◌==◌, Bool, true, false, cond, ◌&&◌, nat_lt, nat_le, max, ◌⊎◌, inl, inr, Option, Some, None, List, [], ◌∷◌, ◌++◌, length, take, refl, sym, ap, ◌∙◌, subst, arith}
 use Rattle.std.proofs.lemmas.Bool.{and_parts, and_from, eqb-true, le-leb, lt-ltb}
 use Rattle.std.proofs.lemmas.List.{length-take-le, take-append-le, take_all}
@@ -24,15 +25,6 @@ use Rattle.path_laws.proofs.Choosing.{choice_in, choice_of, may_parts}
 use Rattle.path_laws.proofs.Goes.{later_on, goes_chosen, notes, raises, commits, reached_laws}
 use Rattle.halt_laws.proofs.Alike.{node_as, VoteFits, LeadingFits, sent_more, Reach, On, At}
 use Rattle.halt_laws.proofs.Onward.{known_of, here_as, Going, onward}
-
-pub any_left : {A : Type 0} (P : A → Type 0) (xs ys : List A) → AnyByRecursion P xs → AnyByRecursion P (xs ++ ys)
-any_left P [] ys h = absurd h
-any_left P (x ∷ xs) ys (inl h) = inl h
-any_left P (x ∷ xs) ys (inr h) = inr (any_left P xs ys h)
-
-pub any_right : {A : Type 0} (P : A → Type 0) (xs ys : List A) → AnyByRecursion P ys → AnyByRecursion P (xs ++ ys)
-any_right P [] ys h = h
-any_right P (x ∷ xs) ys h = inr (any_right P xs ys h)
 
 pub any_split : {A : Type 0} (P : A → Type 0) (xs ys : List A) → AnyByRecursion P (xs ++ ys) → AnyByRecursion P xs ⊎ AnyByRecursion P ys
 any_split P [] ys h = inr h

@@ -1,19 +1,19 @@
 -- The end of a call: its appends, a leader that stops, and the base.
-use Rattle.std.proofs.Common.{◌≡◌, ℕ, ◌+◌, ◌-◌, ◌<◌, ◌≤◌, Bool, false, not, ◌&&◌, nat_lt, nat_le, inl, Option, Some, None, List, [], ◌∷◌, length, take, drop, refl, sym, ap, arith}
-use Rattle.std.proofs.lemmas.Bool.{cond_both, and_parts, ltb-true}
+use Rattle.std.proofs.Common.{true, ◌≡◌, ℕ, ◌+◌, ◌-◌, ◌<◌, ◌≤◌, Bool, false, not, nat_lt, inl, Option, List, [], ◌∷◌, length, take, drop, refl, sym, ap, arith}
+use Rattle.step_walk.proofs.Outcomes as may
+use Rattle.std.proofs.lemmas.Bool.{and_parts, ltb-true}
 use Rattle.std.proofs.lemmas.List.{take-take, drop-take, length-take, length-drop}
 use Rattle.values.specs.declared.entry.Hash.{Hash}
 use Rattle.group_quorum.specs.Conf.{Conf}
 use Rattle.replica_model.specs.declared.Progress.{Progress}
 use Rattle.values.specs.declared.limits.TheConstants.{MAX_ENTRIES}
 use Rattle.replica_model.specs.Path.{Path, Link, chain, point}
-use Rattle.replica_model.specs.Configs.{conf_index}
 use Rattle.replica_model.specs.Keyed.{has}
 use Rattle.replica_model.specs.Message.{Message, plain}
-use Rattle.replica_model.specs.Replica.{Role, Learner, Follower, Candidate, Leader, Leading, Replica}
-use Rattle.replica_model.specs.Peers.{progress_of, with_progress, is_voter}
+use Rattle.replica_model.specs.Replica.{Follower, Leader, Leading, Replica}
+use Rattle.replica_model.specs.Peers.{progress_of, with_progress}
 use Rattle.replica_model.specs.Call.{Call}
-use Rattle.replica_model.specs.Send.{entries_from, append_from, can_append, sent_on, appended_to, send_append, send_appends, stepped_down, base_moved, concluded, ended}
+use Rattle.replica_model.specs.Send.{entries_from, append_from, can_append, sent_on, appended_to, base_moved, ended}
 use Rattle.group_model.specs.Log.{IsFrontOf}
 use Rattle.log_laws.proofs.Ending.{all-append}
 use Rattle.log_laws.proofs.Leading.{front}
@@ -44,12 +44,8 @@ module _ (link : Link) (first : Conf) (holds : ℕ → Bool) (Held : Path → Ty
       }
 
   -- one append
-  append_went : (c : Call) (role : Role) (u : ℕ) → c.state.role ≡ role → Going link first holds Held w v c → Going link first holds Held w v (send_append link c role u)
-  append_went c (Learner taking) u is f = f
-  append_went c Follower u is f = f
-  append_went c (Candidate votes) u is f = f
-  append_went c (Leader l) u is f = cond_both (can_append c.state l u) (appended_to link c l u) c (Going link first holds Held w v)
-      (λ b.
+  append_went : (c : Call) (l : Leading) (u : ℕ) → c.state.role ≡ Leader l → can_append c.state l u ≡ true → Going link first holds Held w v c → Going link first holds Held w v (appended_to link c l u)
+  append_went c l u is b f =
       let s : Replica = c.state in
       let a = f.at in
       let known = known_of first holds f.now v s a l is in
@@ -68,20 +64,11 @@ module _ (link : Link) (first : Conf) (holds : ℕ → Bool) (Held : Path → Ty
       refl (λ held. held)
       (λ held old. all-append (λ (x : ℕ × Message). MsgFits link first Held g.machine.history.messages v x.0 x.1.names x.1.msg) c.sent ((u, plain (append_from link s p.next)) ∷ []) old
       (append_fits g.machine.history.messages s.term s.path p.next s.promised s.committed (omega arith) next_fits held (g.said said (inl refl)), tt))
-      (λ t is'. inl is') f.untold)
-      (λ b. f)
-
-  appends_went : (us : List ℕ) (c : Call) → Going link first holds Held w v c → Going link first holds Held w v (send_appends link c us)
-  appends_went [] c f = f
-  appends_went (u ∷ us) c f = appends_went us (send_append link c c.state.role u) (append_went c c.state.role u refl f)
+      (λ t is'. inl is') f.untold
 
   -- a leader that is no voter any more follows
-  stopped : (c : Call) (role : Role) → c.state.role ≡ role → Going link first holds Held w v c → Going link first holds Held w v (record c { state = stepped_down c.state role })
-  stopped c (Learner taking) is f = f
-  stopped c Follower is f = f
-  stopped c (Candidate votes) is f = f
-  stopped c (Leader l) is f = cond_both (not (is_voter c.state) && nat_le (conf_index c.state.path) c.state.committed) (record (c.state) { role = Follower; known = 0 }) c.state (λ s. Going link first holds Held w v (record c { state = s }))
-      (λ b.
+  stopped : (c : Call) (l : Leading) → c.state.role ≡ Leader l → Going link first holds Held w v c → Going link first holds Held w v (record c { state = record (c.state) { role = Follower; known = 0 } })
+  stopped c l is f =
       let s : Replica = c.state in
       let a = f.at in
       let known = known_of first holds f.now v s a l is in
@@ -89,8 +76,7 @@ module _ (link : Link) (first : Conf) (holds : ℕ → Bool) (Held : Path → Ty
       let g : On first holds f.now v (node.followed n) [] [] = follows first is_single_change single_change_overlaps holds f.now v n a.reached (here_as first holds f.now v s a (Leader l) is) in
       onward link first holds Held w v c (record c { state = record s { role = Follower; known = 0 } }) f (node.followed n) [] g
       (record { reached = g.reached; voted = a.voted; votes = λ u. false; marks = λ u. 0; here = g.here; mine = a.mine; some = a.some; based = a.based; vote_is = a.vote_is; acts = known.0; awake = a.awake })
-      refl (λ held. held) (λ held x. x) (λ t is'. inl is') f.untold)
-      (λ b. f)
+      refl (λ held. held) (λ held x. x) (λ t is'. inl is') f.untold
 
   moved_base : (c : Call) → Going link first holds Held w v c → Going link first holds Held w v (record c { state = base_moved c.state })
   moved_base c f =
@@ -100,9 +86,5 @@ module _ (link : Link) (first : Conf) (holds : ℕ → Bool) (Held : Path → Ty
       (record { reached = a.reached; voted = a.voted; votes = a.votes; marks = a.marks; here = a.here; mine = a.mine; some = a.some; based = omega arith; vote_is = a.vote_is; acts = a.acts; awake = a.awake })
       refl
 
-  concluded_went : (c : Call) → Going link first holds Held w v c → Going link first holds Held w v (concluded c)
-  concluded_went c f = moved_base (record c { state = stepped_down c.state c.state.role }) (stopped c c.state.role refl f)
-
   pub ended_went : (c : Call) (halted : Option (ℕ × Hash × Hash)) → Going link first holds Held w v c → Going link first holds Held w v (ended link c halted)
-  ended_went c (Some d) f = f
-  ended_went c None f = concluded_went (send_appends link c c.appends) (appends_went c.appends c f)
+  ended_went = may.ended_by (Going link first holds Held w v) link append_went (λ c f. f) stopped moved_base

@@ -1,23 +1,23 @@
 -- One call of a replica, and of its enclave, is some moves of its node.
-use Rattle.std.proofs.Common.{◌≡◌, ℕ, ◌<◌, ◌-◌, ◌==◌, ◌||◌, not, Bool, true, false, nat_lt, Option, Some, None, List, length, refl, sym, subst, arith}
-use Rattle.std.proofs.lemmas.Bool.{cond_both, ltb-false}
-use Rattle.std.proofs.lemmas.Option.{none-some}
-use Rattle.values.specs.declared.entry.Hash.{Hash}
+use Rattle.replica_model.specs.Step.{step as step_of}
+use Rattle.replica_model.specs.Replica.{nothing_named, Named, Role, Learner, Follower, Candidate, Leader, Replica}
+use Rattle.step_walk.specs.Rules.{IsBehind, Rules}
+use Rattle.step_walk.proofs.Outcomes as may
+use Rattle.step_walk.proofs.Walk.{holds_behind, step_keeps}
+use Rattle.halt_laws.proofs.Hearing.{accepted_at, rejected_at, taken_at, tick_at, learner_went}
+use Rattle.halt_laws.proofs.Changing.{join_went, admit_went, remove_went, margin_went}
+use Rattle.std.proofs.Common.{◌≡◌, ℕ, ◌<◌, ◌-◌, ◌==◌, ◌||◌, not, Bool, true, false, List, length, refl, subst}
+use Rattle.std.proofs.lemmas.Bool.{lt-ltb}
 use Rattle.values.specs.declared.peer.PeerMsg.{PeerMsg}
-use Rattle.values.specs.declared.peer.PeerMsg.TheVariants.{AskVote, Vote, Append, Accepted, Rejected, Part, PartTaken}
+use Rattle.values.specs.declared.peer.PeerMsg.TheVariants.{AskVote, Vote, Append, Accepted, Rejected, PartTaken}
 use Rattle.group_quorum.specs.Conf.{Conf}
 use Rattle.group_quorum.specs.Voters.{is_in}
 use Rattle.schedule_model.specs.Reading.{max_u32}
 use Rattle.replica_model.specs.Path.{Path, Link}
 use Rattle.replica_model.specs.Message.{Message, plain}
-use Rattle.replica_model.specs.Replica.{Named, Role, Learner, Follower, Candidate, Leader, Replica}
 use Rattle.replica_model.specs.Call as step
 use Rattle.replica_model.specs.Call.{Input, Call, still}
 use Rattle.values.specs.Terms.{term_of}
-use Rattle.replica_model.specs.Term.{followed, higher_term}
-use Rattle.replica_model.specs.Ticks.{tick}
-use Rattle.replica_model.specs.Step.{hears, hears_older, holder_hears, peer_hears, acts_on, acts}
-use Rattle.replica_model.specs.Step.{step as step_of}
 use Rattle.group_model.specs.Enclave.{HostInput, Tick, Peer, Client, Join, Admit, Remove, Save, Roll, Connect, Margin, Enclave, Called, called, accepts, saves_if}
 use Rattle.group_model.specs.Log.{IsFrontOf}
 use Rattle.log_laws.proofs.Chain.{NoCollisionIn}
@@ -25,112 +25,83 @@ use Rattle.path_machine.specs.Node as node
 use Rattle.path_machine.specs.Machine.{Machine}
 use Rattle.path_machine.specs.Changes.{is_rising}
 use Rattle.halt_laws.proofs.Alike.{kind, MsgFits, msg_more, Is, Went}
-use Rattle.halt_laws.proofs.Onward.{IsHolder, followed_holds, Going, still_went, says_went, rise_went}
+use Rattle.halt_laws.proofs.Onward.{Going, still_went, says_went, rise_went}
 use Rattle.halt_laws.proofs.Sending.{ended_went}
 use Rattle.halt_laws.proofs.Electing.{stand_went, vote_asked_went, vote_heard_went, client_went}
 use Rattle.halt_laws.proofs.Offering.{append_went}
-use Rattle.halt_laws.proofs.Hearing.{leader_tick_went, accepted_went, rejected_went, taken_went, part_heard_went, learner_went}
-use Rattle.halt_laws.proofs.Changing.{joins_went, admits_went, removes_went, margins_went}
 
 -- a message that is handed to v stands beside one that was sent
 abbrev pub InputFits : Link → Conf → (Path → Type 0) → List node.Message → ℕ → Input → Type 0
-InputFits link first Held messages v step.Tick = Unit {0}
 InputFits link first Held messages v (step.Peer from m) = (0 < from) × MsgFits link first Held messages from v m.names m.msg
-InputFits link first Held messages v (step.Client client number request) = Unit {0}
-InputFits link first Held messages v (step.Join id linked) = Unit {0}
-InputFits link first Held messages v (step.Admit id) = Unit {0}
-InputFits link first Held messages v (step.Remove id) = Unit {0}
-InputFits link first Held messages v (step.Margin margin) = Unit {0}
+InputFits link first Held messages v input = Unit {0}
 
 -- the same of what a host hands, where nothing is put back
 abbrev pub HostInputFits : Link → Conf → (Path → Type 0) → List node.Message → ℕ → HostInput Message → Type 0
-HostInputFits link first Held messages v Tick = Unit {0}
 HostInputFits link first Held messages v (Peer from to m) = (0 < from) × MsgFits link first Held messages from v m.names m.msg
-HostInputFits link first Held messages v (Client client number request) = Unit {0}
-HostInputFits link first Held messages v (Join id) = Unit {0}
-HostInputFits link first Held messages v (Admit id) = Unit {0}
-HostInputFits link first Held messages v (Remove id) = Unit {0}
-HostInputFits link first Held messages v Save = Unit {0}
 HostInputFits link first Held messages v (Roll state) = ⊥
-HostInputFits link first Held messages v (Connect id) = Unit {0}
-HostInputFits link first Held messages v (Margin margin) = Unit {0}
+HostInputFits link first Held messages v other = Unit {0}
 
 module _ (link : Link) (first : Conf) (rises : is_rising first.voters ≡ true) (holds : ℕ → Bool) (Held : Path → Type 0) (closed : (p w : Path) → IsFrontOf p w → Held w → Held p) (none : NoCollisionIn link Held) (w : Machine) (v : ℕ) where
   abbrev Fit : ℕ → Named → PeerMsg → Type 0
-  Fit from names msg = MsgFits link first Held w.history.messages from v names msg
+  Fit from names msg = (0 < from) × MsgFits link first Held w.history.messages from v names msg
 
-  -- a message that fitted fits
-  now_fits : (s : Replica) (f : Going link first holds Held w v (still s)) (from : ℕ) (names : Named) (msg : PeerMsg) → Fit from names msg → MsgFits link first Held f.now.history.messages from v names msg
-  now_fits s f from names msg x = msg_more link first Held Held (λ p h. h) w.history.messages f.now.history.messages f.later.messages from v names msg x
+  abbrev Goes : Call → Type 0
+  Goes c = Going link first holds Held w v c
 
-  -- a message of the replica's own term
-  hears_went : (s : Replica) → Going link first holds Held w v (still s) → IsHolder s.role → Held s.path → (from : ℕ) → 0 < from → (names : Named) (msg : PeerMsg) → term_of msg ≡ s.term → Fit from names msg → Going link first holds Held w v (hears link s from msg)
-  hears_went s f holder mine from some names (AskVote term last_index last_term) same x =
-      vote_asked_went link first holds Held closed w v s holder from last_index last_term names some f (subst (λ t. MsgFits link first Held f.now.history.messages from v names (AskVote t last_index last_term)) same (now_fits s f from names (AskVote term last_index last_term) x))
-  hears_went s f holder mine from some names (Vote term granted) same x =
-      vote_heard_went link first holds Held closed w v s s.role refl from granted names f (subst (λ t. MsgFits link first Held f.now.history.messages from v names (Vote t granted)) same (now_fits s f from names (Vote term granted) x))
-  hears_went s f holder mine from some names (Append term prev entries promise commit) same x =
-      append_went link first holds Held closed none w v s holder mine f (record { from = from; prev = prev; entries = entries; promise = promise; commit = commit }) (subst (λ t. MsgFits link first Held f.now.history.messages from v names (Append t prev entries promise commit)) same (now_fits s f from names (Append term prev entries promise commit) x))
-  hears_went s f holder mine from some names (Accepted term end promised) same x =
-      accepted_went link first holds Held closed none w v s f mine s.role refl from end promised (subst (λ t. MsgFits link first Held f.now.history.messages from v names (Accepted t end promised)) same (now_fits s f from names (Accepted term end promised) x))
-  hears_went s f holder mine from some names (Rejected term asked hint) same x = rejected_went link first holds Held closed none w v s f s.role refl from hint
-  hears_went s f holder mine from some names (Part term part) same x = part_heard_went link first holds Held closed none w v s f from part
-  hears_went s f holder mine from some names (PartTaken term point next) same x = taken_went link first holds Held closed none w v s f s.role refl from point next
+  -- a state that the moves so far have come to
+  record Come (s : Replica) : Type 0 where
+    going : Goes (still s)
+    mine : Held s.path
 
-  -- a message of an older term
-  older_went : (s : Replica) → Going link first holds Held w v (still s) → (from : ℕ) (msg : PeerMsg) → Going link first holds Held w v (hears_older link s from msg)
-  older_went s f from (AskVote term last_index last_term) = says_went link first holds Held w v (still s) f from (plain (Vote s.term false)) (λ held yes. absurd (let apart : false ≡ true = yes in cc))
-  older_went s f from (Vote term granted) = f
-  older_went s f from (Append term prev entries promise commit) = says_went link first holds Held w v (still s) f from (plain (Rejected s.term prev.index s.promised)) (λ held. tt)
-  older_went s f from (Accepted term end promised) = f
-  older_went s f from (Rejected term asked hint) = f
-  older_went s f from (Part term part) = says_went link first holds Held w v (still s) f from (plain (Rejected s.term part.point.index s.promised)) (λ held. tt)
-  older_went s f from (PartTaken term point next) = taken_went link first holds Held closed none w v s f s.role refl from point next
+  -- a message that fitted fits, in the replica's own term
+  now_fits : (s : Replica) (f : Goes (still s)) (from : ℕ) (names : Named) (msg : PeerMsg) → Fit from names msg → MsgFits link first Held f.now.history.messages from v names msg
+  now_fits s f from names msg x = msg_more link first Held Held (λ p h. h) w.history.messages f.now.history.messages f.later.messages from v names msg x.1
 
-  holder_went : (s : Replica) → Going link first holds Held w v (still s) → IsHolder s.role → Held s.path → (from : ℕ) → 0 < from → (m : Message) → Fit from m.names m.msg → Going link first holds Held w v (holder_hears link s from m.msg)
-  holder_went s f holder mine from some m x =
-      cond_both (nat_lt (term_of m.msg) s.term) (hears_older link s from m.msg) (hears link (higher_term s (term_of m.msg)) from m.msg) (Going link first holds Held w v)
-      (λ b. older_went s f from m.msg)
-      (λ b. cond_both (nat_lt s.term (term_of m.msg)) (record s { term = term_of m.msg; vote = 0; known = 0; role = followed s.role }) s (λ s'. Going link first holds Held w v (hears link s' from m.msg))
-      (λ up. hears_went (record s { term = term_of m.msg; vote = 0; known = 0; role = followed s.role }) (rise_went link first holds Held w v s (term_of m.msg) f up) (followed_holds s.role holder) mine from some m.names m.msg refl x)
-      (λ low.
-      let one = ltb-false (term_of m.msg) s.term b in
-      let two = ltb-false s.term (term_of m.msg) low in
-      hears_went s f holder mine from some m.names m.msg (omega arith) x))
+  says : (s : Replica) → Come s → (to : ℕ) (msg : PeerMsg) → ((messages : List node.Message) → MsgFits link first Held messages v to nothing_named msg) → Goes (Rattle.replica_model.specs.Call.says s to msg)
+  says s f to msg fits = says_went link first holds Held w v (still s) f.going to (plain msg) (λ held. fits f.going.now.history.messages)
 
-  module _ (s : Replica) (a : Is first holds w v s) (mine : Held s.path) where
-    abbrev here : Going link first holds Held w v (still s)
-    here = still_went link first holds Held w v s a
+  behind_kind : (role : Role) → IsBehind role → (node.is_learner (kind role) || node.is_leader (kind role)) ≡ false
+  behind_kind (Learner taking) behind = absurd behind
+  behind_kind Follower behind = refl
+  behind_kind (Candidate votes) behind = refl
+  behind_kind (Leader l) behind = absurd behind
 
-    peer_went : (role : Role) → s.role ≡ role → (from : ℕ) (m : Message) → InputFits link first Held w.history.messages v (step.Peer from m) → Going link first holds Held w v (peer_hears link s role from m)
-    peer_went (Learner taking) is from m x = learner_went link first holds Held closed none w v s here mine taking is from m.names m.msg x.1
-    peer_went Follower is from m x = holder_went s here (subst IsHolder (sym is) tt) mine from x.0 m x.1
-    peer_went (Candidate votes) is from m x = holder_went s here (subst IsHolder (sym is) tt) mine from x.0 m x.1
-    peer_went (Leader l) is from m x = holder_went s here (subst IsHolder (sym is) tt) mine from x.0 m x.1
+  rules : Rules link Come (λ s. InputFits link first Held w.history.messages v) Fit (λ s. Goes) (λ s input. Goes)
+  rules = record {
+    idle = λ s f. f.going;
+    not_leader = λ s known le f. f.going;
+    rises = λ s from names msg f holder x up. record { going = rise_went link first holds Held w v s (term_of msg) f.going (lt-ltb s.term (term_of msg) up); mine = f.mine };
+    back = λ s t c done. done;
+    message = λ s from m x. x;
+    stands = λ s f behind x. stand_went link first holds Held closed w v s (behind_kind s.role behind) (holds_behind s.role behind) f.going;
+    asked_vote = λ s from names term last_index last f holder same x.
+        vote_asked_went link first holds Held closed w v s holder from last_index last names x.0 f.going (subst (λ t. MsgFits link first Held f.going.now.history.messages from v names (AskVote t last_index last)) same (now_fits s f.going from names (AskVote term last_index last) x));
+    heard_vote = λ s votes from names term granted f is same x.
+        vote_heard_went link first holds Held closed w v s votes is from granted names f.going (subst (λ t. MsgFits link first Held f.going.now.history.messages from v names (Vote t granted)) same (now_fits s f.going from names (Vote term granted) x));
+    heard_append = λ s names term o f holder same x.
+        append_went link first holds Held closed none w v s holder f.mine f.going o (subst (λ t. MsgFits link first Held f.going.now.history.messages o.from v names (Append t o.prev o.entries o.promise o.commit)) same (now_fits s f.going o.from names (Append term o.prev o.entries o.promise o.commit) x));
+    older_vote = λ s from names term last_index last f holder x. says s f from (Vote s.term false) (λ messages yes'. absurd (let apart : false ≡ true = yes' in cc));
+    older_append = λ s from names term prev entries promise commit f holder x. says s f from (Rejected s.term prev.index s.promised) (λ messages. tt);
+    older_part = λ s from names term part f holder x. says s f from (Rejected s.term part.point.index s.promised) (λ messages. tt);
+    heard_part = λ s from names term part f holder x. may.part_heard_by Goes link s from part (says s f from (PartTaken s.term part.point part.parts) (λ messages. tt)) (λ hint at. says s f from (Rejected s.term part.point.index hint) (λ messages. tt));
+    takes_part = λ s taking from names term part f is x. learner_went link first holds Held closed none w v s f.going f.mine taking is from names term part x.1;
+    heard_accepted = λ s l from names term end promised f is same x.
+        accepted_at link first holds Held closed none w v s f.going l is f.mine from end promised (subst (λ t. MsgFits link first Held f.going.now.history.messages from v names (Accepted t end promised)) same (now_fits s f.going from names (Accepted term end promised) x));
+    heard_rejected = λ s l from names term asked hint f is same x. rejected_at link first holds Held closed none w v s f.going l is from hint;
+    heard_taken = λ s l from names term point next f is x. taken_at link first holds Held closed none w v s f.going l is from point next;
+    leader_ticks = λ s l f is x. tick_at link first holds Held closed none w v s f.going l is;
+    joins = λ s l id linked f is x. join_went link first rises holds Held closed w v s f.going l is id linked;
+    admits = λ s l id f is x. admit_went link first rises holds Held closed w v s f.going l is id;
+    removes = λ s l id f is x. remove_went link first rises holds Held closed w v s f.going l is id;
+    sets_margin = λ s l margin f is x. margin_went link first rises holds Held closed w v s f.going l is margin;
+    asked = λ s client number request f x. client_went link first holds Held closed w v s client number request f.going;
+    others = λ s input c other done. done;
+    ends = λ s input c done. ended_went link first holds Held closed w v c c.state.halted done;
+  }
 
-    tick_went : (role : Role) → s.role ≡ role → Going link first holds Held w v (tick link s role)
-    tick_went (Learner taking) is = here
-    tick_went Follower is = stand_went link first holds Held closed w v s (subst (λ r. (node.is_learner (kind r) || node.is_leader (kind r)) ≡ false) (sym is) refl) (subst IsHolder (sym is) tt) here
-    tick_went (Candidate votes) is = stand_went link first holds Held closed w v s (subst (λ r. (node.is_learner (kind r) || node.is_leader (kind r)) ≡ false) (sym is) refl) (subst IsHolder (sym is) tt) here
-    tick_went (Leader l) is = leader_tick_went link first holds Held closed none w v s here l is
-
-    acts_on_went : (input : Input) → InputFits link first Held w.history.messages v input → Going link first holds Held w v (acts_on link s input)
-    acts_on_went step.Tick x = tick_went s.role refl
-    acts_on_went (step.Peer from m) x = peer_went s.role refl from m x
-    acts_on_went (step.Client client number request) x = client_went link first holds Held closed w v s client number request here
-    acts_on_went (step.Join id linked) x = joins_went link first rises holds Held closed w v s here id linked
-    acts_on_went (step.Admit id) x = admits_went link first rises holds Held closed w v s here id
-    acts_on_went (step.Remove id) x = removes_went link first rises holds Held closed w v s here id
-    acts_on_went (step.Margin margin) x = margins_went link first rises holds Held closed w v s here margin
-
-    acts_went : (halted : Option (ℕ × Hash × Hash)) → halted ≡ None → (input : Input) → InputFits link first Held w.history.messages v input → Going link first holds Held w v (acts link s halted input)
-    acts_went (Some d) is input x = absurd (none-some d (sym is))
-    acts_went None is input x = acts_on_went input x
-
-    pub step_went : (input : Input) → InputFits link first Held w.history.messages v input → Going link first holds Held w v (step_of link s input)
-    step_went input x =
-        let c : Call = acts link s s.halted input in
-        ended_went link first holds Held closed w v c c.state.halted (acts_went s.halted a.awake input x)
+  step_went : (s : Replica) (a : Is first holds w v s) → Held s.path → (input : Input) → InputFits link first Held w.history.messages v input → Goes (step_of link s input)
+  step_went s a mine input x =
+      step_keeps link Come (λ s. InputFits link first Held w.history.messages v) Fit (λ s. Goes) (λ s input. Goes) rules s (record { going = still_went link first holds Held w v s a; mine = mine }) input x
 
   -- a call of an enclave: it is some moves, and leaves the enclave with the state of the call
   abbrev pub Calls : Called → Type 0

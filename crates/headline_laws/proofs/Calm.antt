@@ -1,5 +1,5 @@
 -- What an event tells of halts is what its call told, and histories only grow.
-use Rattle.std.proofs.Common.{◌≡◌, ℕ, zero, suc, not, Bool, true, false, Option, Some, None, Result, Ok, Err, List, [], ◌∷◌, refl}
+use Rattle.std.proofs.Common.{◌≡◌, ℕ, suc, not, Bool, true, false, Option, Some, None, Result, Ok, Err, List, [], ◌∷◌, refl}
 use Rattle.std.specs.Prelude.{nat_le, is_none, unwrap_or}
 use Rattle.std.specs.List.{AllByRecursion}
 use Rattle.std.proofs.lemmas.Bool.{cond_both}
@@ -20,7 +20,7 @@ use Rattle.group_model.specs.Enclave.{Begin, Learn, HostInput, Tick, Join, Admit
 use Rattle.group_model.specs.Field.{Answers, Unreadable, Nothing}
 use Rattle.group_model.specs.Group.{Setup, Sent, Answered, numbered, but, core_of, saves_of, is_client, keeps}
 use Rattle.group_model.specs.Happens as happening
-use Rattle.group_model.specs.Happens.{Came, Refused, Replied, Reported, Passed, Happening, Happened, Broken, Unanswered, rolled_back, happens}
+use Rattle.group_model.specs.Happens.{Came, Refused, Replied, Passed, Happening, Happened, Broken, Unanswered, happens}
 use Rattle.group_model.specs.Run.{Recorded, Enclaves, World, moves, start_enclave, call_enclave, enclaves}
 
 -- no call of a history told a halt
@@ -29,10 +29,8 @@ IsUntold f = AllByRecursion (λ (r : Recorded). r.call.batch.halt ≡ None) f.hi
 
 -- what came of an event tells no halt
 abbrev pub CameCalm : Came → Type 0
-CameCalm (Refused refusal) = Unit {0}
 CameCalm (Replied r batch) = batch.halt ≡ None
-CameCalm (Reported c report) = Unit {0}
-CameCalm Passed = Unit {0}
+CameCalm other = Unit {0}
 
 -- the event is no roll
 abbrev pub IsNoRoll : Event → Type 0
@@ -136,13 +134,10 @@ module _ (link : Link) (NoRoll : Type 0) (g : World) where
 
 module _ (link : Link) (g : World) where
   acts_calm : (e : Event) → Calm (IsNoRoll e) g (happening.acts (enclaves link) e g)
-  acts_calm (event.Begin margin limit voters) = passes link _ g _ tt
-  acts_calm (event.Start zero) = passes link _ g _ tt
   acts_calm (event.Start (suc x)) = unless_calm link _ g (is_in g.started (suc x)) _ (happening.starts (enclaves link) (suc x)) (connected_calm link _ g (suc x) g.running _ (start_enclave g.field (Learn (suc x) g.running)) (λ u. u.1))
   acts_calm (event.Tick v) = tells_calm link _ g v Tick
   acts_calm (event.Deliver k) = delivers_calm link _ g k (numbered g.messages k)
   acts_calm (event.Lose k) = loses_calm link _ g k (numbered g.messages k)
-  acts_calm (event.Settle n) = passes link _ g _ tt
   acts_calm (event.Crash v) = unless_calm link _ g (not (is_in g.running v)) _ (happening.crashes (enclaves link) v) (record { back = λ h. h; told = λ h. tt; same = λ n. refl })
   acts_calm (event.Save v) = tells_calm link _ g v Save
   acts_calm (event.Roll v k) = unless_calm link _ g (not (is_in g.running v)) _ (happening.rolls (enclaves link) v k) (rolls_calm link _ g (λ never. never) v k)
@@ -154,7 +149,7 @@ module _ (link : Link) (g : World) where
   acts_calm (event.Say c v) = says_calm link _ g c v (happening.said_by (enclaves link) (core_of g.cores c))
   acts_calm (event.Hear c k) = hears_calm link _ g c k (numbered g.answers k)
   acts_calm (event.Margin v m) = tells_calm link _ g v (Margin m)
-  acts_calm (event.Again c) = passes link _ g _ tt
+  acts_calm other = passes link _ g _ tt
 
   acts_in_calm : (o : Option Setup) (e : Event) → Calm (IsNoRoll e) g (happening.acts_in (enclaves link) o e g)
   acts_in_calm None (event.Begin margin limit voters) = begins_calm link _ g limit (conf_of margin voters)

@@ -1,5 +1,5 @@
 -- Every event that happens is counted, and nothing else is.
-use Rattle.std.proofs.Common.{◌≡◌, ℕ, zero, suc, not, Bool, true, false, Option, Some, None, Result, Ok, Err, List, [], ◌∷◌, refl}
+use Rattle.std.proofs.Common.{◌≡◌, ℕ, suc, not, Bool, true, false, Option, Some, None, Result, Ok, Err, List, [], ◌∷◌, refl}
 use Rattle.std.specs.Prelude.{nat_le, is_none, unwrap_or}
 use Rattle.std.proofs.lemmas.Bool.{cond_both}
 use Rattle.group_quorum.specs.Conf.{Conf}
@@ -15,7 +15,7 @@ use Rattle.group_model.specs.Enclave.{Learn, HostInput, Tick, Join, Admit, Remov
 use Rattle.group_model.specs.Field.{Field, Reply, Answers, Unreadable, Nothing}
 use Rattle.group_model.specs.Group.{Setup, Group, Sent, Answered, numbered, but, core_of, saves_of, is_client, keeps}
 use Rattle.group_model.specs.Happens as happening
-use Rattle.group_model.specs.Happens.{Happening, Happened, Broken, Unanswered, rolled_back, happens}
+use Rattle.group_model.specs.Happens.{Happening, Happened, Broken, Unanswered, happens}
 
 module _ {M F : Type 0} where
   -- the group after what happened has these events behind it
@@ -95,13 +95,10 @@ module _ {M F : Type 0} where
     begins_past limit (Ok c) = refl
 
     acts_past : (e : Event) → HasPast g.past (happening.acts field e g)
-    acts_past (event.Begin margin limit voters) = refl
-    acts_past (event.Start zero) = refl
     acts_past (event.Start (suc r)) = unless_past field (is_in g.started (suc r)) _ g (happening.starts field (suc r)) (starts_past (suc r))
     acts_past (event.Tick r) = tells_past r Tick
     acts_past (event.Deliver k) = delivers_past k (numbered g.messages k)
     acts_past (event.Lose k) = loses_past k (numbered g.messages k)
-    acts_past (event.Settle n) = refl
     acts_past (event.Crash r) = unless_past field (not (is_in g.running r)) _ g (happening.crashes field r) refl
     acts_past (event.Save r) = tells_past r Save
     acts_past (event.Roll r k) = unless_past field (not (is_in g.running r)) _ g (happening.rolls field r k) (rolls_past r k)
@@ -113,7 +110,7 @@ module _ {M F : Type 0} where
     acts_past (event.Say c r) = says_past c r (happening.said_by field (core_of g.cores c))
     acts_past (event.Hear c k) = hears_past c k (numbered g.answers k)
     acts_past (event.Margin r m) = tells_past r (Margin m)
-    acts_past (event.Again c) = refl
+    acts_past other = refl
 
     acts_in_past : (o : Option Setup) (e : Event) → HasPast g.past (happening.acts_in field o e g)
     acts_in_past None (event.Begin margin limit voters) = begins_past limit (conf_of margin voters)

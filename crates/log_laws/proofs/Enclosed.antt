@@ -7,7 +7,6 @@ use Rattle.schedule_model.specs.Reading.{max_u32}
 use Rattle.replica_model.specs.Path.{Path, Link}
 use Rattle.replica_model.specs.Replica.{Replica}
 use Rattle.replica_model.specs.Message.{Message}
-use Rattle.replica_model.specs.Call.{Call}
 use Rattle.replica_model.specs.Call as step
 use Rattle.replica_model.specs.Step.{step as step_of}
 use Rattle.group_model.specs.Enclave.{HostInput, Tick, Peer, Client, Join, Admit, Remove, Save, Roll, Connect, Margin, Enclave, Called, calls, saves_if, accepts, called}
@@ -32,28 +31,13 @@ enclave_more first Ever More more Held Larger larger v e g = record {
 
 -- what is handed is good. A roll is no call of the replica
 abbrev pub GoodHostInput : Link → Conf → (ℕ → Path → Type 0) → (Path → Type 0) → HostInput Message → Type 0
-GoodHostInput link first Ever Held Tick = Unit {0}
 GoodHostInput link first Ever Held (Peer from to m) = GoodMessage link first Ever Held from m
-GoodHostInput link first Ever Held (Client client number request) = Unit {0}
-GoodHostInput link first Ever Held (Join id) = Unit {0}
-GoodHostInput link first Ever Held (Admit id) = Unit {0}
-GoodHostInput link first Ever Held (Remove id) = Unit {0}
-GoodHostInput link first Ever Held Save = Unit {0}
 GoodHostInput link first Ever Held (Roll state) = ⊥
-GoodHostInput link first Ever Held (Connect id) = Unit {0}
-GoodHostInput link first Ever Held (Margin margin) = Unit {0}
+GoodHostInput link first Ever Held other = Unit {0}
 
 pub input_more : (link : Link) (first : Conf) (Ever More : ℕ → Path → Type 0) → ((v : ℕ) (q : Path) → Ever v q → More v q) → (Held Larger : Path → Type 0) → ((p : Path) → Held p → Larger p) → (input : HostInput Message) → GoodHostInput link first Ever Held input → GoodHostInput link first More Larger input
-input_more link first Ever More more Held Larger larger Tick x = x
 input_more link first Ever More more Held Larger larger (Peer from to m) x = msg_more first Ever More more Held Larger larger link from m.names m.msg x
-input_more link first Ever More more Held Larger larger (Client client number request) x = x
-input_more link first Ever More more Held Larger larger (Join id) x = x
-input_more link first Ever More more Held Larger larger (Admit id) x = x
-input_more link first Ever More more Held Larger larger (Remove id) x = x
-input_more link first Ever More more Held Larger larger Save x = x
-input_more link first Ever More more Held Larger larger (Roll state) x = x
-input_more link first Ever More more Held Larger larger (Connect id) x = x
-input_more link first Ever More more Held Larger larger (Margin margin) x = x
+input_more link first Ever More more Held Larger larger other x = x
 
 -- a call of an enclave that found this state
 pub record GoodCalled (link : Link) (first : Conf) (Ever : ℕ → Path → Type 0) (Held : Path → Type 0) (v : ℕ) (s : Replica) (c : Called) : Type 0 where

@@ -4,7 +4,7 @@ use Rattle.std.proofs.lemmas.List.{append-nil}
 use Rattle.std.specs.List.{AllByRecursion}
 use Rattle.values.specs.declared.entry.Point.{Point}
 use Rattle.values.specs.declared.peer.PeerMsg.{PeerMsg}
-use Rattle.values.specs.declared.peer.PeerMsg.TheVariants.{AskVote, Vote, Append, Accepted, Rejected, Part, PartTaken}
+use Rattle.values.specs.declared.peer.PeerMsg.TheVariants.{Append, Accepted, Part}
 use Rattle.group_quorum.specs.Conf.{Conf}
 use Rattle.replica_model.specs.declared.Progress.{Progress}
 use Rattle.replica_model.specs.Path.{Path, Link, chain}
@@ -94,13 +94,10 @@ pub record GoodNames (first : Conf) (Ever : ℕ → Path → Type 0) (Held : Pat
   pub first_is : names.first ≡ first
 
 abbrev pub GoodMsg : Link → Conf → (ℕ → Path → Type 0) → (Path → Type 0) → ℕ → Named → PeerMsg → Type 0
-GoodMsg link first Ever Held from names (AskVote term last_index last_term) = Unit {0}
-GoodMsg link first Ever Held from names (Vote term granted) = Unit {0}
 GoodMsg link first Ever Held from names (Append term prev entries promise commit) = GoodAppend link first Ever Held prev entries commit
 GoodMsg link first Ever Held from names (Accepted term end promised) = GoodAccepted link Ever Held from end promised
-GoodMsg link first Ever Held from names (Rejected term asked hint) = Unit {0}
 GoodMsg link first Ever Held from names (Part term part) = GoodNames first Ever Held names
-GoodMsg link first Ever Held from names (PartTaken term point next) = Unit {0}
+GoodMsg link first Ever Held from names other = Unit {0}
 
 abbrev pub GoodMessage : Link → Conf → (ℕ → Path → Type 0) → (Path → Type 0) → ℕ → Message → Type 0
 GoodMessage link first Ever Held from m = GoodMsg link first Ever Held from m.names m.msg
@@ -144,10 +141,8 @@ module _ (first : Conf) (Ever More : ℕ → Path → Type 0) (more : (v : ℕ) 
     }
 
     pub role_more : (theirs : Conf) (path : Path) (role : Role) → GoodRole first Ever Held theirs path role → GoodRole first More Larger theirs path role
-    role_more theirs path (Learner taking) g = g
-    role_more theirs path Follower g = g
-    role_more theirs path (Candidate votes) g = g
     role_more theirs path (Leader l) g = (g.0, leading_more path l g.1)
+    role_more theirs path other g = g
 
     pub state_more : (s : Replica) → GoodState first Ever Held s → GoodState first More Larger s
     state_more s g = record {
@@ -162,13 +157,10 @@ module _ (first : Conf) (Ever More : ℕ → Path → Type 0) (more : (v : ℕ) 
     replica_more v s g = record { mine = g.mine; state = state_more s g.state; held = larger s.path g.held; own = more v (take s.promised s.path) g.own }
 
     pub msg_more : (link : Link) (from : ℕ) (names : Named) (m : PeerMsg) → GoodMsg link first Ever Held from names m → GoodMsg link first More Larger from names m
-    msg_more link from names (AskVote term last_index last_term) g = g
-    msg_more link from names (Vote term granted) g = g
     msg_more link from names (Append term prev entries promise commit) g = record { path = g.path; held = larger g.path g.held; good = path_more commit g.path g.good; prev_fits = g.prev_fits; hash_is = g.hash_is; entries_are = g.entries_are }
     msg_more link from names (Accepted term end promised) g = record { path = g.path; held = larger g.path g.held; end_is = g.end_is; hash_is = g.hash_is; promise = more from (take promised g.path) g.promise }
-    msg_more link from names (Rejected term asked hint) g = g
     msg_more link from names (Part term part) g = record { table = table_more names.path g.table; first_is = g.first_is }
-    msg_more link from names (PartTaken term point next) g = g
+    msg_more link from names other g = g
 
 pub front_refl : (p : Path) → IsFrontOf p p
 front_refl p = ([], append-nil p)

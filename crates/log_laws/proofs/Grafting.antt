@@ -1,13 +1,13 @@
 -- An append heard keeps a replica good.
-use Rattle.std.proofs.Common.{◌≡◌, ℕ, ◌-◌, ◌≤◌, nat_le, min, max, inl, inr, Option, Some, None, [], ◌∷◌, ◌++◌, length, take, drop, refl, sym, ap, ◌∙◌, subst, arith}
-use Rattle.std.proofs.lemmas.Bool.{cond_both}
+use Rattle.step_walk.proofs.Outcomes.{IsCalm}
+use Rattle.replica_model.specs.Graft.{grafted, accepts, Offer, points_of, points_from, end_of, Difference, first_difference, kept_length, added, refusal_hint, following}
+use Rattle.std.proofs.Common.{◌≡◌, ℕ, ◌-◌, ◌≤◌, min, max, inl, inr, Option, None, [], ◌∷◌, ◌++◌, length, take, drop, refl, sym, ap, ◌∙◌, subst, arith}
 use Rattle.std.proofs.lemmas.List.{take-take, take_all, length-drop}
-use Rattle.values.specs.declared.peer.PeerMsg.TheVariants.{Accepted, Rejected}
+use Rattle.values.specs.declared.peer.PeerMsg.TheVariants.{Accepted}
 use Rattle.group_quorum.specs.Conf.{Conf}
 use Rattle.replica_model.specs.Path.{Path, Link, chain, point}
 use Rattle.replica_model.specs.Message.{plain}
 use Rattle.replica_model.specs.Replica.{Follower, Replica}
-use Rattle.replica_model.specs.Graft.{Offer, points_of, points_from, end_of, Difference, first_difference, kept_length, added, refusal_hint, following, answered, graft, halts, conflict_or_graft, append_heard}
 use Rattle.group_model.specs.Log.{IsFrontOf}
 use Rattle.agreement.specs.Promised.{EachPlacePromised}
 use Rattle.agreement.proofs.Promised.{each_shorter}
@@ -15,8 +15,7 @@ use Rattle.agreement.proofs.Committing.{OldPromised}
 use Rattle.agreement.proofs.Places.{take_front}
 use Rattle.log_laws.proofs.Chain.{NoCollisionIn, max_cases}
 use Rattle.log_laws.proofs.Good.{GoodPath, GoodReplica, GoodAppend, GoodParts, GoodCall}
-use Rattle.log_laws.proofs.Calls.{as_was, unmoved}
-use Rattle.log_laws.proofs.Offered.{Grafts, IsCalm, grafts}
+use Rattle.log_laws.proofs.Offered.{Grafts, grafts}
 
 -- what holds of a path after a graft
 record Joined (first : Conf) (Ever : ℕ → Path → Type 0) (s : Replica) (path new : Path) : Type 0 where
@@ -92,30 +91,19 @@ module _ (link : Link) (first : Conf) (Ever : ℕ → Path → Type 0) (Held : P
       }
 
   -- an offer of a part of a path, without a conflict
-  calm_good : (path : Path) (o : Offer) (d : Option Difference) → GoodPath first Ever o.commit path → Held path → o.prev.index ≤ length path → o.prev.hash ≡ chain link (take o.prev.index path) → o.entries ≡ drop o.prev.index path → first_difference link s (points_of link o) ≡ d → IsCalm s d → GoodCall link first Ever Held v (take s.promised s.path) (graft link s d o)
-  calm_good path o d offers held le hash_is entries is calm = near (refusal_hint (following s o.from) d o) refl
-    where
-      near : (hint : Option ℕ) → refusal_hint (following s o.from) d o ≡ hint → GoodCall link first Ever Held v (take s.promised s.path) (answered link (following s o.from) d o hint)
-      near (Some hint) hinted = unmoved link first Ever Held v s g Follower theirs ((o.from, plain (Rejected s.term o.prev.index hint)) ∷ []) (tt, tt)
-      near None hinted =
-          let within = g.state.within in
-          let based = g.state.based in
-          let total : length path ≡ end_of o = omega (arith, length-drop o.prev.index path, ap length entries) in
-          let new : Path = take (kept_length s.path d) s.path ++ added (kept_length s.path d) o in
-          let as_offered : take (kept_length s.path d) s.path ++ drop (kept_length s.path d - o.prev.index) (drop o.prev.index path) ≡ new =
-          ap (λ es. take (kept_length s.path d) s.path ++ drop (kept_length s.path d - o.prev.index) es) (sym entries) in
-          grafted_good path new o.from s.term (end_of o) o.promise o.commit offers held total
-          (joined_path path new offers.older
-          (subst (Grafts s path) as_offered
-          (grafts link s Held none closed g.held path held o.from o.promise o.commit o.prev d le hash_is (omega arith) g.state.fits
-          (ap (λ es. first_difference link s (points_from link o.prev.index o.prev.hash es)) (sym entries) ∙ is) calm
-          (ap (λ es. refusal_hint s d (record o { entries = es })) (sym entries) ∙ hinted))))
-
-  pub append_good : (o : Offer) → GoodAppend link first Ever Held o.prev o.entries o.commit → GoodCall link first Ever Held v (take s.promised s.path) (append_heard link s o)
-  append_good o a = judged (first_difference link s (points_of link o)) refl
-    where
-      judged : (d : Option Difference) → first_difference link s (points_of link o) ≡ d → GoodCall link first Ever Held v (take s.promised s.path) (conflict_or_graft link s d o)
-      judged None is = calm_good a.path o None a.good a.held a.prev_fits a.hash_is a.entries_are is tt
-      judged (Some d) is = cond_both (nat_le d.0 s.promised) (halts s d) (graft link s (Some d) o) (GoodCall link first Ever Held v (take s.promised s.path))
-          (λ conflict. as_was link first Ever Held v s g)
-          (λ calm. calm_good a.path o (Some d) a.good a.held a.prev_fits a.hash_is a.entries_are is calm)
+  pub graft_good : (o : Offer) → GoodAppend link first Ever Held o.prev o.entries o.commit → (d : Option Difference) → first_difference link s (points_of link o) ≡ d → IsCalm s d → refusal_hint (following s o.from) d o ≡ None → GoodCall link first Ever Held v (take s.promised s.path) (accepts link (grafted (following s o.from) d o) o)
+  graft_good o a d is calm hinted =
+      let path : Path = a.path in
+      let entries = a.entries_are in
+      let within = g.state.within in
+      let based = g.state.based in
+      let total : length path ≡ end_of o = omega (arith, length-drop o.prev.index path, ap length entries) in
+      let new : Path = take (kept_length s.path d) s.path ++ added (kept_length s.path d) o in
+      let as_offered : take (kept_length s.path d) s.path ++ drop (kept_length s.path d - o.prev.index) (drop o.prev.index path) ≡ new =
+      ap (λ es. take (kept_length s.path d) s.path ++ drop (kept_length s.path d - o.prev.index) es) (sym entries) in
+      grafted_good path new o.from s.term (end_of o) o.promise o.commit a.good a.held total
+      (joined_path path new a.good.older
+      (subst (Grafts s path) as_offered
+      (grafts link s Held none closed g.held path a.held o.from o.promise o.commit o.prev d a.prev_fits a.hash_is (omega arith) g.state.fits
+      (ap (λ es. first_difference link s (points_from link o.prev.index o.prev.hash es)) (sym entries) ∙ is) calm
+      (ap (λ es. refusal_hint s d (record o { entries = es })) (sym entries) ∙ hinted))))

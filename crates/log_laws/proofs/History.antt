@@ -1,5 +1,6 @@
 -- What a history tells of promises and paths, and that it only grows.
-use Rattle.std.proofs.Common.{◌≡◌, ◌≤◌, ℕ, inl, inr, Option, List, [], ◌∷◌, ◌++◌, length, nat_lt, refl, sym, ap, ◌∙◌, length-append, arith}
+use Rattle.std.proofs.Common.{zero, suc, inl, inr, take, ◌++◌, ◌≡◌, ◌≤◌, ℕ, Option, List, [], ◌∷◌, length, nat_lt, refl, sym, ap, ◌∙◌, length-append, arith}
+use Rattle.group_model.specs.Log.{AnyByRecursion, state_of, promised_path, longest, IsFrontOf}
 use Rattle.std.specs.List.{AllByRecursion}
 use Rattle.std.proofs.lemmas.Bool.{cond_both, ltb-true, ltb-false}
 use Rattle.std.proofs.lemmas.List.{append-nil, nil_from_length}
@@ -9,8 +10,6 @@ use Rattle.replica_model.specs.Message.{Message}
 use Rattle.replica_model.specs.Call.{Call}
 use Rattle.group_model.specs.Enclave.{HostInput}
 use Rattle.group_model.specs.Run.{Recorded}
-use Rattle.group_model.specs.Log.{AnyByRecursion, state_of, promised_path, longest}
-use Rattle.group_model.specs.Log.{IsFrontOf}
 use Rattle.agreement.specs.Promised.{IsComparable}
 use Rattle.log_laws.proofs.Chain.{NoCollisionIn}
 use Rattle.log_laws.proofs.Good.{front_refl}
@@ -47,9 +46,30 @@ promised_held (r ∷ history) v p (inr h) = inr (promised_held history v p h)
 pub none_larger : (link : Link) (Held Larger : Path → Type 0) → ((p : Path) → Held p → Larger p) → NoCollisionIn link Larger → NoCollisionIn link Held
 none_larger link Held Larger larger none p q a b hp hq same = none p q a b (larger (p ++ a ∷ []) hp) (larger (q ++ b ∷ []) hq) same
 
-pub all_more : {A : Type 0} (P Q : A → Type 0) → ((x : A) → P x → Q x) → (xs : List A) → AllByRecursion P xs → AllByRecursion Q xs
-all_more P Q f [] h = tt
-all_more P Q f (x ∷ xs) h = (f x h.0, all_more P Q f xs h.1)
+-- ---- elements of lists
+module _ {A : Type 0} where
+  pub any_more : (P Q : A → Type 0) → ((x : A) → P x → Q x) → (xs : List A) → AnyByRecursion P xs → AnyByRecursion Q xs
+  any_more P Q more [] h = absurd h
+  any_more P Q more (x ∷ xs) (inl h) = inl (more x h)
+  any_more P Q more (x ∷ xs) (inr h) = inr (any_more P Q more xs h)
+
+  pub any_left : (P : A → Type 0) (xs ys : List A) → AnyByRecursion P xs → AnyByRecursion P (xs ++ ys)
+  any_left P [] ys h = absurd h
+  any_left P (x ∷ xs) ys (inl h) = inl h
+  any_left P (x ∷ xs) ys (inr h) = inr (any_left P xs ys h)
+
+  pub any_right : (P : A → Type 0) (xs ys : List A) → AnyByRecursion P ys → AnyByRecursion P (xs ++ ys)
+  any_right P [] ys h = h
+  any_right P (x ∷ xs) ys h = inr (any_right P xs ys h)
+
+  pub all_more : (P Q : A → Type 0) → ((x : A) → P x → Q x) → (xs : List A) → AllByRecursion P xs → AllByRecursion Q xs
+  all_more P Q f [] h = tt
+  all_more P Q f (x ∷ xs) h = (f x h.0, all_more P Q f xs h.1)
+
+  pub all_take : (P : A → Type 0) (k : ℕ) (xs : List A) → AllByRecursion P xs → AllByRecursion P (take k xs)
+  all_take P zero xs h = tt
+  all_take P (suc k) [] h = tt
+  all_take P (suc k) (x ∷ xs) h = (h.0, all_take P k xs h.1)
 
 -- two fronts of one path are comparable
 pub both_fronts : (p q w : Path) → IsFrontOf p w → IsFrontOf q w → IsComparable p q

@@ -19,8 +19,7 @@ use Rattle.group_model.specs.Enclave.{Begin, Learn, HostInput, Roll, Connect, En
 use Rattle.group_model.specs.Group.{Setup, Sent}
 use Rattle.group_model.specs.Happens as happening
 use Rattle.group_model.specs.Run.{Enclaves, World, no_enclaves, moves, start_enclave, enclaves, run}
-use Rattle.group_model.specs.Log.{setup_of, state_of, committed_path, fronts_of, log_of, WithinBound, NoCollision}
-use Rattle.group_model.specs.Log.{IsFrontOf}
+use Rattle.group_model.specs.Log.{setup_of, state_of, committed_path, fronts_of, log_of, WithinBound, NoCollision, IsFrontOf}
 use Rattle.agreement.specs.Promised.{EachPlacePromised, Bears}
 use Rattle.agreement.proofs.Promised.{agree_each, each_nil}
 use Rattle.log_laws.specs.OneLog.{IsOneLog}
@@ -28,7 +27,7 @@ use Rattle.log_laws.proofs.Chain.{NoCollisionIn}
 use Rattle.log_laws.proofs.History.{with_call, EverIn, HeldIn, ever_shorter, promised_held, none_larger, begin_longest}
 use Rattle.log_laws.proofs.Enclosed.{GoodHostInput}
 use Rattle.log_laws.proofs.Moving.{KeptRun, GoodMail, all_numbered, none_promised, started_more, stopped_kept, called_kept, idle_kept, rolled_kept, start_kept}
-use Rattle.event_walk.specs.Cases.{Handing, Ticked, Saved, Joins, Admits, Removes, Margins, Delivered, Asked, Said, handed, Survives}
+use Rattle.event_walk.specs.Cases.{Handing, Delivered, handed, Survives}
 use Rattle.event_walk.proofs.Walk as walk
 
 -- what the world keeps: before the group has begun it has nothing
@@ -106,14 +105,7 @@ module _ (link : Link) (w : World) (k : KeptSo link w) where
 
   good_handed : KeptWorld link w → (v : ℕ) (h : Handing w v) → GoodHostInput link first (EverIn w.field.history) (HeldIn w.field.history) (handed h)
   good_handed old v (Delivered j m is to) = all_numbered (GoodMail link first w.field.history) w.messages j m is old.kept.mail
-  good_handed old v Ticked = tt
-  good_handed old v Saved = tt
-  good_handed old v (Joins id) = tt
-  good_handed old v (Admits id) = tt
-  good_handed old v (Removes id) = tt
-  good_handed old v (Margins margin) = tt
-  good_handed old v (Asked client number request before is) = tt
-  good_handed old v (Said client core number request has says) = tt
+  good_handed old v other = tt
 
 survives : (link : Link) → Survives link (KeptSo link)
 survives link = record {

@@ -1,4 +1,5 @@
 -- What an append offers, against what a replica holds.
+use Rattle.step_walk.proofs.Outcomes.{IsCalm}
 use Rattle.std.proofs.Common.{◌≡◌, ℕ, zero, suc, ◌+◌, ◌-◌, ◌<◌, ◌≤◌, true, false, cond, ◌&&◌, ◌||◌, nat_lt, nat_le, ◌⊎◌, inl, inr, Option, Some, None, [], ◌∷◌, ◌++◌, length, take, drop, refl, sym, ap, ◌∙◌, add-one, arith}
 use Rattle.std.proofs.lemmas.Slice.Eq.{bytes_eq-Decides}
 use Rattle.std.proofs.lemmas.Bool.{and_parts, and_cases, and_from, or_parts, leb-true, leb-false, ltb-false, le-leb, eqb-false, cond-true, cond-false, cases_Bool, cases_lt, cases_eq}
@@ -33,11 +34,6 @@ abbrev pub Grafts : Replica → Path → Path → Type 0
 Grafts s path new =
     ((new ≡ s.path) × (take (length path) s.path ≡ path) × (length path ≤ length s.path))
     ⊎ ((new ≡ path) × (take s.promised path ≡ take s.promised s.path) × (s.promised ≤ length path))
-
--- a difference is no conflict
-abbrev pub IsCalm : Replica → Option Difference → Type 0
-IsCalm s None = Unit {0}
-IsCalm s (Some d) = nat_le d.0 s.promised ≡ false
 
 module _ (link : Link) (s : Replica) where
   -- the hash kept at an index

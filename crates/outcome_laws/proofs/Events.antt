@@ -13,7 +13,7 @@ use Rattle.group_model.specs.Happens as happening
 use Rattle.group_model.specs.Run.{Enclaves, World, moves, start_enclave, enclaves, run}
 use Rattle.group_model.specs.Laws.{limit_of}
 use Rattle.log_laws.proofs.Moving.{all_numbered}
-use Rattle.event_walk.specs.Cases.{Handing, Ticked, Saved, Joins, Admits, Removes, Margins, Delivered, Asked, Said, handed, Survives}
+use Rattle.event_walk.specs.Cases.{Handing, Delivered, handed, Survives}
 use Rattle.event_walk.proofs.Walk as walk
 use Rattle.outcome_laws.proofs.Tickets.{LimitTold}
 use Rattle.outcome_laws.proofs.Moved.{FairRun, FairHostInput, stopped_fair, call_kept, refused_kept, rolled_kept, start_kept}
@@ -48,14 +48,7 @@ module _ (link : Link) (w : World) (k : FairWorld w) where
 
   fair_handed : (v : ℕ) (h : Handing w v) → FairHostInput (limit_of w) (handed h)
   fair_handed v (Delivered j m is to) = all_numbered (λ (m : Sent Message). LimitTold (limit_of w) m.message) w.messages j m is k.kept.mail
-  fair_handed v Ticked = tt
-  fair_handed v Saved = tt
-  fair_handed v (Joins id) = tt
-  fair_handed v (Admits id) = tt
-  fair_handed v (Removes id) = tt
-  fair_handed v (Margins margin) = tt
-  fair_handed v (Asked client number request before is) = tt
-  fair_handed v (Said client core number request has says) = tt
+  fair_handed v other = tt
 
 survives : (link : Link) → Survives link FairWorld
 survives link = record {

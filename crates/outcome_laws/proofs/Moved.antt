@@ -12,8 +12,7 @@ use Rattle.replica_model.specs.Message.{Message}
 use Rattle.replica_model.specs.Call.{Call, still}
 use Rattle.replica_model.specs.Call as step
 use Rattle.replica_model.specs.Step.{step as step_of}
-use Rattle.group_model.specs.Enclave.{Hello, Begin, Learn, hello_id, HostInput, Tick, Peer, Client, Join, Admit, Remove, Save, Roll, Connect, Margin, Enclave, Called, calls, saves_if, accepts, called}
-use Rattle.group_model.specs.Enclave.{started as started_as}
+use Rattle.group_model.specs.Enclave.{Hello, Begin, Learn, hello_id, HostInput, Tick, Peer, Client, Join, Admit, Remove, Save, Roll, Connect, Margin, Enclave, Called, calls, saves_if, accepts, called, started as started_as}
 use Rattle.group_model.specs.Group.{Sent, sent_by}
 use Rattle.group_model.specs.Run.{Recorded, Enclaves, moves, newly, start_enclave}
 use Rattle.group_model.specs.Log.{asked_in}
@@ -57,16 +56,9 @@ enclave_later run history r v e g = record {
 
 -- what is handed is fair. A roll is no call of the replica
 abbrev pub FairHostInput : ℕ → HostInput Message → Type 0
-FairHostInput run Tick = Unit {0}
 FairHostInput run (Peer from to m) = LimitTold run m
-FairHostInput run (Client client number request) = Unit {0}
-FairHostInput run (Join id) = Unit {0}
-FairHostInput run (Admit id) = Unit {0}
-FairHostInput run (Remove id) = Unit {0}
-FairHostInput run Save = Unit {0}
 FairHostInput run (Roll state) = ⊥
-FairHostInput run (Connect id) = Unit {0}
-FairHostInput run (Margin margin) = Unit {0}
+FairHostInput run other = Unit {0}
 
 -- a call of an enclave
 record FairCalled (run : ℕ) (history : List Recorded) (v : ℕ) (s : Replica) (input : HostInput Message) (c : Called) : Type 0 where
@@ -83,14 +75,14 @@ module _ (link : Link) (run : ℕ) (history : List Recorded) (v : ℕ) (e : Encl
 
   abbrev IsFairFor : HostInput Message → step.Input → Type 0
   IsFairFor input x =
-      IsFairInput (all input) e.replica.tickets e.replica.committed run link e.replica (found_fair run history v e.replica g.now (Some input)) (found_waits run history v e.replica g.now) x
+      IsFairInput (all input) e.replica.tickets e.replica.committed run link e.replica x
 
   -- the input makes the tickets that the host's makes
-  stepped : (input : HostInput Message) (x : step.Input) → asked_in e.replica (Some input) ≡ new_tickets (all input) e.replica.tickets e.replica.committed run link e.replica (found_fair run history v e.replica g.now (Some input)) (found_waits run history v e.replica g.now) x → IsFairFor input x → FairCalled run history v e.replica input (calls e (step_of link e.replica x))
+  stepped : (input : HostInput Message) (x : step.Input) → asked_in e.replica (Some input) ≡ new_tickets (all input) e.replica.tickets e.replica.committed run link e.replica x → IsFairFor input x → FairCalled run history v e.replica input (calls e (step_of link e.replica x))
   stepped input x same fine = record {
     same = refl;
     call = subst (λ new. FairCall (all input) (e.replica.tickets ++ new) e.replica.committed run (step_of link e.replica x)) (sym same)
-        (step_fair (all input) e.replica.tickets e.replica.committed run link e.replica (found_fair run history v e.replica g.now (Some input)) (found_waits run history v e.replica g.now) refl x fine);
+        (step_fair (all input) e.replica.tickets e.replica.committed run link e.replica (record { state = found_fair run history v e.replica g.now (Some input); waits = found_waits run history v e.replica g.now; now = refl }) x fine);
     saved = g.saved;
   }
 
@@ -126,17 +118,8 @@ fresh_fair run history (Learn id linked) of_run = record { reads = (refl, λ som
 
 -- what holds of each ticket of a call, unless it is a roll
 due_unless_roll : (r : Recorded) (input : Option (HostInput Message)) → AllByRecursion (IsAnswered r) (tickets_in r) → AreAnswered r input
-due_unless_roll r None h = h
 due_unless_roll r (Some (Roll state)) h = tt
-due_unless_roll r (Some Tick) h = h
-due_unless_roll r (Some (Peer from to m)) h = h
-due_unless_roll r (Some (Client client number bytes)) h = h
-due_unless_roll r (Some (Join id)) h = h
-due_unless_roll r (Some (Admit id)) h = h
-due_unless_roll r (Some (Remove id)) h = h
-due_unless_roll r (Some Save) h = h
-due_unless_roll r (Some (Connect id)) h = h
-due_unless_roll r (Some (Margin margin)) h = h
+due_unless_roll r other h = h
 
 module _ (run : ℕ) (messages : List (Sent Message)) (f : Enclaves) (k : FairRun run messages f) where
   -- one replica goes on

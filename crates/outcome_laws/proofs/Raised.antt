@@ -1,28 +1,23 @@
 -- A committed index that rises answers tickets fairly, and the end of a call leaves its outcomes as they are.
-use Rattle.std.proofs.Common.{◌≡◌, ℕ, ◌≤◌, ◌⊎◌, inl, inr, Bool, true, false, not, ◌&&◌, nat_lt, nat_le, max, Option, Some, None, List, [], ◌∷◌, map, refl, sym, ap, ◌∙◌, subst, arith}
+use Rattle.std.proofs.Common.{◌≡◌, ℕ, ◌≤◌, ◌⊎◌, inl, inr, Bool, true, false, not, nat_lt, nat_le, max, Option, Some, None, List, [], ◌∷◌, map, refl, sym, ap, ◌∙◌, subst, arith}
 use Rattle.std.specs.Prelude.{filter, filter_map, option_map}
 use Rattle.std.specs.List.{AllByRecursion, cons_option}
 use Rattle.std.proofs.lemmas.Bool.{cond_both, cond-true, cases_Bool, and_parts, and_from, and_right, leb-true, leb-false, lt-ltb}
-use Rattle.values.specs.declared.entry.Hash.{Hash}
 use Rattle.values.specs.declared.ids.ClientId.{ClientId}
 use Rattle.values.specs.declared.message.Answer.{Answer}
 use Rattle.values.specs.declared.message.Answer.TheVariants.{Outcome}
 use Rattle.values.specs.declared.message.Reply.{Reply}
-use Rattle.replica_model.specs.Path.{Path, Link}
-use Rattle.replica_model.specs.Configs.{conf_index}
-use Rattle.replica_model.specs.Folds.{reply_of}
-use Rattle.replica_model.specs.Replica.{Ticket, Role, Learner, Follower, Candidate, Leader, Leading, Replica}
-use Rattle.replica_model.specs.Peers.{is_voter}
+use Rattle.replica_model.specs.Path.{Path}
+use Rattle.replica_model.specs.Folds.{reply_of, ask_of}
+use Rattle.replica_model.specs.Replica.{Ticket, Leading, Replica}
 use Rattle.replica_model.specs.Call.{Call, moment}
 use Rattle.replica_model.specs.Raise.{is_due, outcome_of, commit_to, promise_raised, commit_index, raise}
-use Rattle.replica_model.specs.Send.{can_append, appended_to, send_append, send_appends, stepped_down, ended}
 use Rattle.log_laws.proofs.Ending.{all-append}
 use Rattle.log_laws.proofs.History.{all_more}
 use Rattle.group_model.specs.Log.{AnyByRecursion}
 use Rattle.group_model.specs.Due.{IsToldOutcome}
-use Rattle.replica_model.specs.Folds.{ask_of}
 use Rattle.outcome_laws.proofs.Places.{ask_of_entry, reply_of_ask}
-use Rattle.outcome_laws.proofs.Tickets.{Stands, Waits, IsOwed, Reads, LimitTold, IsFair, FairCall, reads_fewer, all_filter, or_idle, left_among, right_among}
+use Rattle.outcome_laws.proofs.Tickets.{Stands, Waits, IsOwed, IsFair, FairCall, reads_fewer, all_filter, or_idle, left_among, right_among}
 
 -- ---- tickets and answers in lists
 pub stand_of : (P : Ticket → Type 0) (t : Ticket) (ts : List Ticket) → AllByRecursion P ts → AnyByRecursion (λ u. u ≡ t) ts → P t
@@ -126,31 +121,3 @@ module _ (all olds : List Ticket) (since run : ℕ) where
       let raised : Call = moment (promise_raised (moment c) l) in
       commit_fair raised (commit_index raised.state l) theirs owed
       (record { reads = g.reads; stand = g.stand; answered = g.answered; told = g.told; owed = g.owed })
-
-  -- an append needs nothing
-  append_fair : (link : Link) (c : Call) (role : Role) (u : ℕ) → c.state.role ≡ role → FairCall all olds since run c → FairCall all olds since run (send_append link c role u)
-  append_fair link c (Learner taking) u is g = g
-  append_fair link c Follower u is g = g
-  append_fair link c (Candidate votes) u is g = g
-  append_fair link c (Leader l) u is g = cond_both (can_append c.state l u) (appended_to link c l u) c (FairCall all olds since run)
-      (λ b. record { reads = subst (Reads run c.state.limit c.state.tickets) is g.reads; stand = g.stand; answered = g.answered; told = all-append (λ m. LimitTold run m.1) c.sent _ g.told (tt, tt); owed = g.owed })
-      (λ b. g)
-
-  appends_fair : (link : Link) (us : List ℕ) (c : Call) → FairCall all olds since run c → FairCall all olds since run (send_appends link c us)
-  appends_fair link [] c g = g
-  appends_fair link (u ∷ us) c g = appends_fair link us (send_append link c c.state.role u) (append_fair link c c.state.role u refl g)
-
-  stopped_fair : (c : Call) (role : Role) → c.state.role ≡ role → FairCall all olds since run c → FairCall all olds since run (record c { state = stepped_down c.state role })
-  stopped_fair c (Learner taking) is g = g
-  stopped_fair c Follower is g = g
-  stopped_fair c (Candidate votes) is g = g
-  stopped_fair c (Leader l) is g = cond_both (not (is_voter c.state) && nat_le (conf_index c.state.path) c.state.committed) (record (c.state) { role = Follower; known = 0 }) c.state (λ s. FairCall all olds since run (record c { state = s }))
-      (λ b. record { reads = subst (Reads run c.state.limit c.state.tickets) is g.reads; stand = g.stand; answered = g.answered; told = g.told; owed = g.owed })
-      (λ b. g)
-
-  pub ended_fair : (link : Link) (c : Call) (halted : Option (ℕ × Hash × Hash)) → FairCall all olds since run c → FairCall all olds since run (ended link c halted)
-  ended_fair link c (Some d) g = g
-  ended_fair link c None g =
-      let sent : Call = send_appends link c c.appends in
-      let stopped = stopped_fair sent sent.state.role refl (appends_fair link c.appends c g) in
-      record { reads = stopped.reads; stand = stopped.stand; answered = stopped.answered; told = stopped.told; owed = stopped.owed }

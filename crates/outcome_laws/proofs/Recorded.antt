@@ -1,5 +1,5 @@
 -- A recorded call: its outcomes are its path's replies to requests that were handed to this replica.
-use Rattle.std.proofs.Common.{◌≡◌, ℕ, suc, ◌+◌, ◌<◌, ◌≤◌, ◌==◌, ◌⊎◌, inl, inr, Option, Some, None, Result, Ok, Err, List, [], ◌∷◌, ◌++◌, length, refl, sym, ap, subst, ◌∙◌, slice_get, arith}
+use Rattle.std.proofs.Common.{◌≡◌, ℕ, suc, ◌+◌, ◌<◌, ◌≤◌, ◌==◌, ◌⊎◌, inl, inr, Option, Some, Result, Ok, Err, List, [], ◌∷◌, ◌++◌, length, refl, sym, ap, subst, ◌∙◌, slice_get, arith}
 use Rattle.std.specs.Prelude.{find, option_map}
 use Rattle.std.specs.List.{AllByRecursion}
 use Rattle.std.proofs.lemmas.Bool.{cases_Bool, cond-true, cond-false, eqb-true, eqb-false}
@@ -20,7 +20,7 @@ use Rattle.replica_model.specs.Folds.{reply_of}
 use Rattle.replica_model.specs.Message.{Message}
 use Rattle.replica_model.specs.Replica.{Ticket, Replica}
 use Rattle.replica_model.specs.Call.{Call, still}
-use Rattle.group_model.specs.Enclave.{HostInput, Tick, Peer, Client, Join, Admit, Remove, Save, Roll, Connect, Margin}
+use Rattle.group_model.specs.Enclave.{HostInput, Client}
 use Rattle.group_model.specs.Run.{Recorded}
 use Rattle.group_model.specs.Log.{AnyByRecursion, state_of, committed_path, new_ticket, asked_in, ticket_request}
 use Rattle.group_model.specs.Due.{IsAnswered}
@@ -78,22 +78,13 @@ abbrev IsAskedNow : Replica → Option (HostInput Message) → Ticket → Type 0
 IsAskedNow s input t = (t.index ≡ length s.path + 1) × ((bytes : List ℕ) × (input ≡ Some (Client t.client t.number bytes)) × (request_of bytes ≡ Ok t.request))
 
 asked_new : (s : Replica) (input : Option (HostInput Message)) (u : Ticket) → IsAmong (asked_in s input) u → IsAskedNow s input u
-asked_new s None u h = absurd h
-asked_new s (Some Tick) u h = absurd h
-asked_new s (Some (Peer from to m)) u h = absurd h
-asked_new s (Some (Join id)) u h = absurd h
-asked_new s (Some (Admit id)) u h = absurd h
-asked_new s (Some (Remove id)) u h = absurd h
-asked_new s (Some Save) u h = absurd h
-asked_new s (Some (Roll state)) u h = absurd h
-asked_new s (Some (Connect id)) u h = absurd h
-asked_new s (Some (Margin margin)) u h = absurd h
 asked_new s (Some (Client client number bytes)) u h = of_result (request_of bytes) refl h
   where
     of_result : (r : Result Request RequestFault) → request_of bytes ≡ r → IsAmong (new_ticket s client number r) u → IsAskedNow s (Some (Client client number bytes)) u
     of_result (Ok request) is (inl same) = subst (IsAskedNow s (Some (Client client number bytes))) same (refl, (bytes, refl, is))
     of_result (Ok request) is (inr never) = absurd never
     of_result (Err fault) is never = absurd never
+asked_new s other u h = absurd h
 
 last_entry : (p : Path) (e : LogEntry) → entry_at (p ++ e ∷ []) (length p + 1) ≡ Some e
 last_entry p e = subst (λ i. entry_at (p ++ e ∷ []) i ≡ Some e) (the_index (length p)) (pushed_at p)

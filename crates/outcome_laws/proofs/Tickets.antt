@@ -1,4 +1,5 @@
 -- What every state keeps of its tickets and of the limit by which it reads its path, and what a call tells of outcomes.
+use Rattle.log_laws.proofs.History.{any_left, any_right}
 use Rattle.std.proofs.Common.{◌≡◌, ℕ, ◌<◌, ◌≤◌, ◌⊎◌, inl, inr, Bool, true, Some, Ok, List, [], ◌∷◌, ◌++◌}
 use Rattle.std.specs.Prelude.{filter}
 use Rattle.std.specs.List.{AllByRecursion}
@@ -9,13 +10,13 @@ use Rattle.values.specs.declared.message.Answer.{Answer}
 use Rattle.values.specs.declared.message.Answer.TheVariants.{Outcome}
 use Rattle.values.specs.declared.message.Reply.{Reply}
 use Rattle.values.specs.declared.peer.PeerMsg.{PeerMsg}
-use Rattle.values.specs.declared.peer.PeerMsg.TheVariants.{AskVote, Vote, Append, Accepted, Rejected, Part, PartTaken}
+use Rattle.values.specs.declared.peer.PeerMsg.TheVariants.{Part}
 use Rattle.client_msgs.specs.Canonical.{canonical_request}
 use Rattle.client_msgs.specs.Reading.{request_of}
 use Rattle.replica_model.specs.Path.{Path, entry_at}
 use Rattle.replica_model.specs.Folds.{reply_of}
 use Rattle.replica_model.specs.Message.{Message}
-use Rattle.replica_model.specs.Replica.{Ticket, Named, Role, Learner, Follower, Candidate, Leader, Replica}
+use Rattle.replica_model.specs.Replica.{Ticket, Named, Role, Learner, Replica}
 use Rattle.replica_model.specs.Call.{Call}
 use Rattle.group_model.specs.Log.{AnyByRecursion, IsFrontOf}
 use Rattle.group_model.specs.Due.{IsToldOutcome, IsToldReplaced}
@@ -38,19 +39,12 @@ pub record Stands (all : List Ticket) (path : Path) (t : Ticket) : Type 0 where
 -- a learner has no ticket, and once it took a part it knows the run's limit; who holds a log reads it by that limit
 abbrev pub Reads : ℕ → ℕ → List Ticket → Role → Type 0
 Reads run limit tickets (Learner taking) = (tickets ≡ []) × (0 < taking.next → taking.names.limit ≡ run)
-Reads run limit tickets Follower = limit ≡ run
-Reads run limit tickets (Candidate votes) = limit ≡ run
-Reads run limit tickets (Leader l) = limit ≡ run
+Reads run limit tickets other = limit ≡ run
 
 -- a part names the run's limit
 abbrev pub NamesLimit : ℕ → Named → PeerMsg → Type 0
-NamesLimit run names (AskVote term last_index last_term) = Unit {0}
-NamesLimit run names (Vote term granted) = Unit {0}
-NamesLimit run names (Append term prev entries promise commit) = Unit {0}
-NamesLimit run names (Accepted term end promised) = Unit {0}
-NamesLimit run names (Rejected term asked hint) = Unit {0}
 NamesLimit run names (Part term part) = names.limit ≡ run
-NamesLimit run names (PartTaken term point next) = Unit {0}
+NamesLimit run names other = Unit {0}
 
 abbrev pub LimitTold : ℕ → Message → Type 0
 LimitTold run m = NamesLimit run m.names m.msg
@@ -109,9 +103,7 @@ FairState all olds since run s = FairParts all olds since run s.limit s.committe
 
 pub reads_fewer : (run limit : ℕ) (tickets fewer : List Ticket) (role : Role) → (tickets ≡ [] → fewer ≡ []) → Reads run limit tickets role → Reads run limit fewer role
 reads_fewer run limit tickets fewer (Learner taking) none reads = (none reads.0, reads.1)
-reads_fewer run limit tickets fewer Follower none reads = reads
-reads_fewer run limit tickets fewer (Candidate votes) none reads = reads
-reads_fewer run limit tickets fewer (Leader l) none reads = reads
+reads_fewer run limit tickets fewer other none reads = reads
 
 pub stands_longer : (all : List Ticket) (p w : Path) → IsFrontOf p w → (t : Ticket) → Stands all p t → Stands all w t
 stands_longer all p w pre t g = record {
@@ -149,10 +141,7 @@ module _ (since limit : ℕ) where
 -- ---- elements of lists
 module _ {A : Type 0} where
   pub left_among : (xs ys : List A) (x : A) → AnyByRecursion (λ u. u ≡ x) xs → AnyByRecursion (λ u. u ≡ x) (xs ++ ys)
-  left_among [] ys x m = absurd m
-  left_among (y ∷ xs) ys x (inl same) = inl same
-  left_among (y ∷ xs) ys x (inr m) = inr (left_among xs ys x m)
+  left_among xs ys x m = any_left (λ u. u ≡ x) xs ys m
 
   pub right_among : (xs ys : List A) (x : A) → AnyByRecursion (λ u. u ≡ x) ys → AnyByRecursion (λ u. u ≡ x) (xs ++ ys)
-  right_among [] ys x m = m
-  right_among (y ∷ xs) ys x m = inr (right_among xs ys x m)
+  right_among xs ys x m = any_right (λ u. u ≡ x) xs ys m

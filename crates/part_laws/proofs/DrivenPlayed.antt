@@ -1,18 +1,18 @@
 -- Where clients are driven, the enclaves stand as those of a run too.
-use Rattle.std.proofs.Common.{◌≡◌, ℕ, zero, suc, Bool, true, false, not, ◌&&◌, if◌then◌else◌, Option, Some, None, Result, Ok, Err, List, [], length, refl, is_none, is_some}
+use Rattle.std.proofs.Common.{ℕ, zero, suc, Bool, true, false, not, ◌&&◌, if◌then◌else◌, Option, Some, None, Result, Ok, Err, List, [], length, refl, is_none, is_some}
 use Rattle.values.specs.declared.event.Event.{Event}
 use Rattle.values.specs.declared.event.Event.TheVariants as event
 use Rattle.values.specs.declared.ids.ClientId.{ClientId}
 use Rattle.record_cutting.specs.Lines.{Record}
 use Rattle.schedule_model.specs.Reading.{RecordFault}
 use Rattle.schedule_model.specs.Records.{event_of}
-use Rattle.schedule_model.specs.Written.{Written, On, Off, follow, all_written, last_of}
+use Rattle.schedule_model.specs.Written.{Written, On, Off, follow}
 use Rattle.replica_model.specs.Path.{Link}
 use Rattle.replica_model.specs.Message.{Message}
 use Rattle.group_model.specs.Group.{Answered}
 use Rattle.group_model.specs.Run.{Enclaves, empty_world, enclaves}
-use Rattle.trace_model.specs.Driven.{Driving, answer_in, asks_target, carries, carries_if, driven_by, driven_record, driven_said, driver_made, drives, drives_on, drives_settled, drives_want, flight_of, hears_answer, seen_in, sees, takes_turn, takes_turns, turns_end, wakes_target}
-use Rattle.trace_model.specs.Driver.{Driver, Report, Silence, Turn, begin_want, max_turns, new_driver, next_turn}
+use Rattle.trace_model.specs.Driven.{Driving, answer_in, asks_target, carries_if, driven_by, driven_record, driven_said, driver_made, drives, drives_on, drives_settled, drives_want, flight_of, hears_answer, seen_in, sees, takes_turn, takes_turns, turns_end, wakes_target}
+use Rattle.trace_model.specs.Driver.{Driver, Report, Turn, begin_want, max_turns, new_driver, next_turn}
 use Rattle.trace_model.specs.Trace.{counted, expanded, playing}
 use Rattle.part_laws.specs.Named.{DrivenCallsAreNamed, driven_from}
 use Rattle.part_laws.proofs.Played.{Ends, Play, Stands, all_end, counted_stands, expanded_ends, follow_ends, of_run}

@@ -1,15 +1,15 @@
 -- Without a collision, what a run hands to its learners goes on with the tables of which they took parts.
-use Rattle.std.proofs.Common.{◌≡◌, ℕ, ◌<◌, inl, inr, Option, Some, None, List, [], ◌∷◌, length, refl, sym, ap, subst, ◌∙◌, arith}
+use Rattle.std.proofs.Common.{◌≡◌, ℕ, ◌<◌, inl, inr, Option, Some, List, [], ◌∷◌, length, refl, sym, ap, subst, ◌∙◌, arith}
 use Rattle.std.specs.List.{AllByRecursion}
 use Rattle.values.specs.declared.entry.Point.{Point}
 use Rattle.values.specs.declared.peer.TablePart.{TablePart}
 use Rattle.values.specs.declared.peer.PeerMsg.{PeerMsg}
-use Rattle.values.specs.declared.peer.PeerMsg.TheVariants.{AskVote, Vote, Append, Accepted, Rejected, Part, PartTaken}
+use Rattle.values.specs.declared.peer.PeerMsg.TheVariants.{Part}
 use Rattle.replica_model.specs.Path.{Path, Link, end_point}
 use Rattle.replica_model.specs.Message.{Message}
-use Rattle.replica_model.specs.Replica.{Named, Taking, Role, Learner, Follower, Candidate, Leader}
+use Rattle.replica_model.specs.Replica.{Named, Taking, Role, Learner}
 use Rattle.replica_model.specs.Tables.{rows_of, parts_of, point_taken}
-use Rattle.group_model.specs.Enclave.{HostInput, Tick, Peer, Client, Join, Admit, Remove, Save, Roll, Connect, Margin}
+use Rattle.group_model.specs.Enclave.{HostInput, Peer}
 use Rattle.group_model.specs.Group.{Sent}
 use Rattle.group_model.specs.Log.{AnyByRecursion, NoCollision}
 use Rattle.group_model.specs.Run.{Recorded, World, run}
@@ -38,13 +38,8 @@ module _ (link : Link) (w : World) (none : NoCollision link w) where
   KnownTable names = (part : TablePart) × KnownPart link w none names part
 
   part_known : (names other : Named) (msg : PeerMsg) → Known link w none other msg → PartOf names other msg → KnownTable names
-  part_known names other (AskVote term last_index last_term) k is = absurd is
-  part_known names other (Vote term granted) k is = absurd is
-  part_known names other (Append term prev entries promise commit) k is = absurd is
-  part_known names other (Accepted term end promised) k is = absurd is
-  part_known names other (Rejected term asked hint) k is = absurd is
   part_known names other (Part term part) k is = (part, subst (λ (n : Named). KnownPart link w none n part) is k)
-  part_known names other (PartTaken term point next) k is = absurd is
+  part_known names other rest k is = absurd is
 
   sent_known : (names : Named) (messages : List (Sent Message)) → AllByRecursion (KnownMail link w none) messages → AnyByRecursion (IsPartOf names) messages → KnownTable names
   sent_known names [] known any = absurd any
@@ -64,33 +59,17 @@ module _ (link : Link) (w : World) (none : NoCollision link w) where
         (same_point_is part.point (point_taken link taking) same ∙ sym (part_point taking.names table.0 table.1))
 
     msg_named : (taking : Taking) → WasTold w.messages taking.names → (names : Named) (msg : PeerMsg) → Known link w none names msg → IsNamed link (Learner taking) msg names
-    msg_named taking told names (AskVote term last_index last_term) k = tt
-    msg_named taking told names (Vote term granted) k = tt
-    msg_named taking told names (Append term prev entries promise commit) k = tt
-    msg_named taking told names (Accepted term end promised) k = tt
-    msg_named taking told names (Rejected term asked hint) k = tt
     msg_named taking told names (Part term part) k = (k.true_part, goes_on taking told names part k)
-    msg_named taking told names (PartTaken term point next) k = tt
+    msg_named taking told names other k = tt
 
     peer_named : (limit : ℕ) (role : Role) → GoodTables (WasTold w.messages) limit role → (names : Named) (msg : PeerMsg) → Known link w none names msg → IsNamed link role msg names
     peer_named limit (Learner taking) told names msg k = msg_named taking told names msg k
-    peer_named limit Follower told names msg k = tt
-    peer_named limit (Candidate votes) told names msg k = tt
-    peer_named limit (Leader l) told names msg k = tt
+    peer_named limit other told names msg k = tt
 
     handed_named : (limit : ℕ) (role : Role) → GoodTables (WasTold w.messages) limit role → (input : Option (HostInput Message)) → HandedSent w.messages input → IsNamedTo link role input
-    handed_named limit role told None sent = tt
-    handed_named limit role told (Some Tick) sent = tt
     handed_named limit role told (Some (Peer from to m)) sent =
         peer_named limit role told m.names m.msg (all_at (KnownMail link w none) w.messages (record { from = from; to = to; message = m }) sent known)
-    handed_named limit role told (Some (Client client number request)) sent = tt
-    handed_named limit role told (Some (Join id)) sent = tt
-    handed_named limit role told (Some (Admit id)) sent = tt
-    handed_named limit role told (Some (Remove id)) sent = tt
-    handed_named limit role told (Some Save) sent = tt
-    handed_named limit role told (Some (Roll state)) sent = tt
-    handed_named limit role told (Some (Connect id)) sent = tt
-    handed_named limit role told (Some (Margin margin)) sent = tt
+    handed_named limit role told other sent = tt
 
     all_named : (history : List Recorded) → AllByRecursion (λ (r : Recorded). HandedSent w.messages r.input) history → AllByRecursion (λ (r : Recorded). HasGoodTables (WasTold w.messages) r.before) history → AllByRecursion (IsNamedCall link) history
     all_named [] handed found = tt

@@ -1,5 +1,4 @@
 mod True
-mod Rules
 mod Stepped
 pub mod Walk
 mod Runs

@@ -8,7 +8,7 @@ use Rattle.values.specs.declared.entry.Point.{Point}
 use Rattle.values.specs.declared.event.Event.{Event}
 use Rattle.values.specs.declared.peer.TablePart.{TablePart}
 use Rattle.values.specs.declared.peer.PeerMsg.{PeerMsg}
-use Rattle.values.specs.declared.peer.PeerMsg.TheVariants.{AskVote, Vote, Append, Accepted, Rejected, Part, PartTaken}
+use Rattle.values.specs.declared.peer.PeerMsg.TheVariants.{Part}
 use Rattle.replica_model.specs.Path.{Link, chain, end_point, same_hash, same_point}
 use Rattle.replica_model.specs.Message.{Message}
 use Rattle.replica_model.specs.Replica.{Named, nothing_named, Role, Learner, Follower, Candidate, Leader}
@@ -47,13 +47,8 @@ no_way is = cc
 
 -- ---- the map: the first part that was sent of a table at this point says whose it is
 abbrev is_at : PeerMsg → Point → Bool
-is_at (AskVote term last_index last_term) p = false
-is_at (Vote term granted) p = false
-is_at (Append term prev entries promise commit) p = false
-is_at (Accepted term end promised) p = false
-is_at (Rejected term asked hint) p = false
 is_at (Part term part) p = same_point part.point p
-is_at (PartTaken term point next) p = false
+is_at other p = false
 
 abbrev pub names_in : List (Sent Message) → Point → Named
 names_in [] p = nothing_named
@@ -68,25 +63,15 @@ module _ (link : Link) (w : World) (none : NoCollision link w) where
     first_is : names.first ≡ (setup_of w).first
 
   abbrev pub Known : Named → PeerMsg → Type 0
-  Known names (AskVote term last_index last_term) = Unit {0}
-  Known names (Vote term granted) = Unit {0}
-  Known names (Append term prev entries promise commit) = Unit {0}
-  Known names (Accepted term end promised) = Unit {0}
-  Known names (Rejected term asked hint) = Unit {0}
   Known names (Part term part) = KnownPart names part
-  Known names (PartTaken term point next) = Unit {0}
+  Known names other = Unit {0}
 
   abbrev pub KnownMail : Sent Message → Type 0
   KnownMail m = Known m.message.names m.message.msg
 
   known_msg : (from : ℕ) (names : Named) (msg : PeerMsg) → IsTrueMsg link names msg → GoodMsg link (setup_of w).first (EverIn w.field.history) (HeldIn w.field.history) from names msg → NamesLimit (limit_of w) names msg → Known names msg
-  known_msg from names (AskVote term last_index last_term) part_is good told = tt
-  known_msg from names (Vote term granted) part_is good told = tt
-  known_msg from names (Append term prev entries promise commit) part_is good told = tt
-  known_msg from names (Accepted term end promised) part_is good told = tt
-  known_msg from names (Rejected term asked hint) part_is good told = tt
   known_msg from names (Part term part) part_is good told = record { true_part = part_is; held = good.table.held; limit_is = told; first_is = good.first_is }
-  known_msg from names (PartTaken term point next) part_is good told = tt
+  known_msg from names other part_is good told = tt
 
   -- two parts of tables at one point name the same
   pub one_name : (n m : Named) (a b : TablePart) → KnownPart n a → KnownPart m b → a.point ≡ b.point → n ≡ m
@@ -102,13 +87,8 @@ module _ (link : Link) (w : World) (none : NoCollision link w) where
   -- the map has what a part names at its point
   module _ (names : Named) (part : TablePart) (k : KnownPart names part) where
     found : (other : Named) (msg : PeerMsg) → Known other msg → is_at msg part.point ≡ true → other ≡ names
-    found other (AskVote term last_index last_term) known at = absurd (no_way at)
-    found other (Vote term granted) known at = absurd (no_way at)
-    found other (Append term prev entries promise commit) known at = absurd (no_way at)
-    found other (Accepted term end promised) known at = absurd (no_way at)
-    found other (Rejected term asked hint) known at = absurd (no_way at)
     found other (Part term p) known at = one_name other names p part known k (same_point_is p.point part.point at)
-    found other (PartTaken term point next) known at = absurd (no_way at)
+    found other rest known at = absurd (no_way at)
 
     abbrev IsPartOf : ℕ → ℕ → ℕ → Sent Message → Type 0
     IsPartOf term from to s = s ≡ record { from = from; to = to; message = record { msg = Part term part; names = names } }
@@ -129,13 +109,8 @@ module _ (link : Link) (w : World) (none : NoCollision link w) where
     the_map = names_in w.messages
 
     named_msg : (from to : ℕ) (names : Named) (msg : PeerMsg) → AnyByRecursion (λ (s : Sent Message). s ≡ record { from = from; to = to; message = record { msg = msg; names = names } }) w.messages → Known names msg → IsNamed link the_map msg names
-    named_msg from to names (AskVote term last_index last_term) sent k = tt
-    named_msg from to names (Vote term granted) sent k = tt
-    named_msg from to names (Append term prev entries promise commit) sent k = tt
-    named_msg from to names (Accepted term end promised) sent k = tt
-    named_msg from to names (Rejected term asked hint) sent k = tt
     named_msg from to names (Part term part) sent k = (k.true_part, at_its_point names part k term w.messages known from to sent)
-    named_msg from to names (PartTaken term point next) sent k = tt
+    named_msg from to names other sent k = tt
 
     -- whatever was sent is named by the map
     pub sent_named : (from to : ℕ) (m : Message) → AnyByRecursion (λ (s : Sent Message). s ≡ record { from = from; to = to; message = m }) w.messages → IsNamed link the_map m.msg m.names

@@ -1,4 +1,5 @@
 -- Every run sends true parts alone, and hands its enclaves nothing but what was sent. So what its learners take was sent.
+use Rattle.log_laws.proofs.History.{any_left, all_more}
 use Rattle.std.proofs.Common.{◌≡◌, ℕ, ◌==◌, ◌-◌, not, Bool, true, false, inl, inr, Option, Some, None, List, [], ◌∷◌, ◌++◌, length, map, slice_get, refl, sym, ◌∙◌, subst}
 use Rattle.std.specs.Prelude.{◌⊎◌}
 use Rattle.std.specs.List.{AllByRecursion}
@@ -7,7 +8,7 @@ use Rattle.std.proofs.lemmas.Option.{none-some, same_Some}
 use Rattle.group_quorum.specs.Voters.{is_in}
 use Rattle.values.specs.declared.event.Event.{Event}
 use Rattle.values.specs.declared.peer.PeerMsg.{PeerMsg}
-use Rattle.values.specs.declared.peer.PeerMsg.TheVariants.{AskVote, Vote, Append, Accepted, Rejected, Part, PartTaken}
+use Rattle.values.specs.declared.peer.PeerMsg.TheVariants.{Part}
 use Rattle.values.specs.declared.peer.TablePart.{TablePart}
 use Rattle.schedule_model.specs.Reading.{max_u32}
 use Rattle.replica_model.specs.Path.{Link}
@@ -17,14 +18,12 @@ use Rattle.replica_model.specs.Message.{Message}
 use Rattle.replica_model.specs.Call.{Call}
 use Rattle.replica_model.specs.Call as step
 use Rattle.replica_model.specs.Step.{step as step_of}
-use Rattle.group_model.specs.Enclave.{Hello, Begin, Learn, hello_id, HostInput, Tick, Peer, Client, Join, Admit, Remove, Save, Roll, Connect, Margin, Enclave, Called, calls, saves_if, rolls_to, accepts, called}
-use Rattle.group_model.specs.Enclave.{started as started_as}
+use Rattle.group_model.specs.Enclave.{Hello, Begin, Learn, hello_id, HostInput, Tick, Peer, Client, Join, Admit, Remove, Save, Roll, Connect, Margin, Enclave, Called, calls, saves_if, rolls_to, accepts, called, started as started_as}
 use Rattle.group_model.specs.Group.{Sent, sent_by}
 use Rattle.group_model.specs.Log.{AnyByRecursion}
 use Rattle.group_model.specs.Run.{Recorded, Enclaves, moves, newly, start_enclave, run}
 use Rattle.log_laws.proofs.Ending.{all-append}
 use Rattle.log_laws.proofs.Lookups.{put_cases, without_stood}
-use Rattle.log_laws.proofs.History.{all_more}
 use Rattle.log_laws.proofs.Moving.{all_get}
 use Rattle.part_laws.proofs.True.{HasGoodTables, TakesOf, TakesIn, IsTrue, AreTrue, good_more}
 use Rattle.part_laws.proofs.Stepped.{step_true}
@@ -59,22 +58,9 @@ pub record TrueRun (link : Link) (messages : List (Sent Message)) (f : Enclaves)
   pub found : AllByRecursion (λ (r : Recorded). HasGoodTables (WasTold messages) r.before) f.history
 
 -- ---- what was sent stays sent
-any_left : {A : Type 0} (P : A → Type 0) (xs ys : List A) → AnyByRecursion P xs → AnyByRecursion P (xs ++ ys)
-any_left P [] ys any = absurd any
-any_left P (x ∷ xs) ys (inl here) = inl here
-any_left P (x ∷ xs) ys (inr there) = inr (any_left P xs ys there)
-
 sent_more : (messages new : List (Sent Message)) (input : HostInput Message) → WasSent messages input → WasSent (messages ++ new) input
-sent_more messages new Tick h = h
 sent_more messages new (Peer from to m) h = any_left (λ (s : Sent Message). s ≡ record { from = from; to = to; message = m }) messages new h
-sent_more messages new (Client client number request) h = h
-sent_more messages new (Join id) h = h
-sent_more messages new (Admit id) h = h
-sent_more messages new (Remove id) h = h
-sent_more messages new Save h = h
-sent_more messages new (Roll state) h = h
-sent_more messages new (Connect id) h = h
-sent_more messages new (Margin margin) h = h
+sent_more messages new other h = h
 
 handed_more : (messages new : List (Sent Message)) (input : Option (HostInput Message)) → HandedSent messages input → HandedSent (messages ++ new) input
 handed_more messages new None h = h
@@ -102,13 +88,8 @@ part_told from to names term part (m ∷ messages) (inr there) = inr (part_told 
 
 module _ (messages : List (Sent Message)) (from to : ℕ) (names : Named) where
   msg_told : (msg : PeerMsg) → AnyByRecursion (λ (s : Sent Message). s ≡ record { from = from; to = to; message = record { msg = msg; names = names } }) messages → TakesOf (WasTold messages) names msg
-  msg_told (AskVote term last_index last_term) sent = tt
-  msg_told (Vote term granted) sent = tt
-  msg_told (Append term prev entries promise commit) sent = tt
-  msg_told (Accepted term end promised) sent = tt
-  msg_told (Rejected term asked hint) sent = tt
   msg_told (Part term part) sent = inr (part_told from to names term part messages sent)
-  msg_told (PartTaken term point next) sent = tt
+  msg_told other sent = tt
 
 module _ (link : Link) where
   -- ---- one call of an enclave

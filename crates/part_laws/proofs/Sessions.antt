@@ -148,17 +148,8 @@ module _ (link : Link) (events : List Event) (none : NoCollision link (run link 
   W = run link events
 
   input_named : {E : Type 0} (wording : Wording E) (tagging : Tagging) (input : Option (HostInput Message)) → HandedSent W.messages input → NamedInput wording tagging link (names_in W.messages) input
-  input_named wording tagging None sent = tt
-  input_named wording tagging (Some Tick) sent = tt
   input_named wording tagging (Some (Peer from to m)) sent = sent_named link W none (mail_known link events none) from to m sent
-  input_named wording tagging (Some (Client client number request)) sent = tt
-  input_named wording tagging (Some (Join id)) sent = tt
-  input_named wording tagging (Some (Admit id)) sent = tt
-  input_named wording tagging (Some (Remove id)) sent = tt
-  input_named wording tagging (Some Save) sent = tt
-  input_named wording tagging (Some (Roll state)) sent = tt
-  input_named wording tagging (Some (Connect id)) sent = tt
-  input_named wording tagging (Some (Margin margin)) sent = tt
+  input_named wording tagging other sent = tt
 
   calls_named : {E : Type 0} (wording : Wording E) (tagging : Tagging) (v : ℕ) → AllByRecursion (λ (r : Recorded). NamedInput wording tagging link (names_in W.messages) r.input) (calls_of W v)
   calls_named wording tagging v =

@@ -3,7 +3,7 @@
 use Rattle.std.proofs.Common.{◌≡◌, ℕ, ◌<◌, Some, List, arith}
 use Rattle.std.specs.List.{AllByRecursion}
 use Rattle.values.specs.declared.peer.PeerMsg.{PeerMsg}
-use Rattle.values.specs.declared.peer.PeerMsg.TheVariants.{AskVote, Vote, Append, Accepted, Rejected, Part, PartTaken}
+use Rattle.values.specs.declared.peer.PeerMsg.TheVariants.{Part}
 use Rattle.replica_model.specs.Path.{Path, Link}
 use Rattle.replica_model.specs.Keyed.{value_at}
 use Rattle.replica_model.specs.Folds.{fold_of}
@@ -32,13 +32,8 @@ module _ (Takes : Named → Type 0) where
 
   -- so it is of what a part names that is handed
   abbrev pub TakesOf : Named → PeerMsg → Type 0
-  TakesOf names (AskVote term last_index last_term) = Unit {0}
-  TakesOf names (Vote term granted) = Unit {0}
-  TakesOf names (Append term prev entries promise commit) = Unit {0}
-  TakesOf names (Accepted term end promised) = Unit {0}
-  TakesOf names (Rejected term asked hint) = Unit {0}
   TakesOf names (Part term part) = Takes names
-  TakesOf names (PartTaken term point next) = Unit {0}
+  TakesOf names other = Unit {0}
 
   abbrev pub TakesIn : Input → Type 0
   TakesIn (Peer from m) = TakesOf m.names m.msg
@@ -57,13 +52,8 @@ module _ {Takes More : Named → Type 0} (more : (names : Named) → Takes names
 
 module _ (link : Link) where
   abbrev pub IsTrueMsg : Named → PeerMsg → Type 0
-  IsTrueMsg names (AskVote term last_index last_term) = Unit {0}
-  IsTrueMsg names (Vote term granted) = Unit {0}
-  IsTrueMsg names (Append term prev entries promise commit) = Unit {0}
-  IsTrueMsg names (Accepted term end promised) = Unit {0}
-  IsTrueMsg names (Rejected term asked hint) = Unit {0}
   IsTrueMsg names (Part term part) = IsTruePart link part names
-  IsTrueMsg names (PartTaken term point next) = Unit {0}
+  IsTrueMsg names other = Unit {0}
 
   -- a part is a true part of the path that it names
   abbrev pub IsTrue : Message → Type 0

@@ -8,27 +8,19 @@ use Rattle.replica_model.specs.Path.{Link}
 use Rattle.replica_model.specs.Keyed.{value_at, without}
 use Rattle.replica_model.specs.Message.{Message}
 use Rattle.replica_model.specs.Replica.{Replica}
-use Rattle.group_model.specs.Enclave.{Hello, Begin, Learn, HostInput, Tick, Peer, Client, Join, Admit, Remove, Save, Roll, Connect, Margin, Enclave, called, rolls_to}
+use Rattle.group_model.specs.Enclave.{Hello, Begin, Learn, HostInput, Peer, Roll, Connect, Enclave, called, rolls_to}
 use Rattle.group_model.specs.Group.{Sent, sent_by, numbered}
 use Rattle.group_model.specs.Happens as happening
-use Rattle.group_model.specs.Happens.{Happening, Happened, Broken, Unanswered, happens}
+use Rattle.group_model.specs.Happens.{Happening, happens}
 use Rattle.group_model.specs.Log.{AnyByRecursion}
-use Rattle.event_walk.specs.Cases.{Handing, Ticked, Saved, Joins, Admits, Removes, Margins, Delivered, Asked, Said, handed, after_call, Survives}
+use Rattle.event_walk.specs.Cases.{Handing, Delivered, handed, after_call, Survives}
 use Rattle.event_walk.proofs.Walk as walk
 use Rattle.group_model.specs.Run.{Enclaves, World, no_enclaves, moves, start_enclave, enclaves, run}
 
 -- a message that is handed is one of those that were sent
 abbrev pub WasSent : List (Sent Message) → HostInput Message → Type 0
-WasSent messages Tick = Unit {0}
 WasSent messages (Peer from to m) = AnyByRecursion (λ (s : Sent Message). s ≡ record { from = from; to = to; message = m }) messages
-WasSent messages (Client client number request) = Unit {0}
-WasSent messages (Join id) = Unit {0}
-WasSent messages (Admit id) = Unit {0}
-WasSent messages (Remove id) = Unit {0}
-WasSent messages Save = Unit {0}
-WasSent messages (Roll state) = Unit {0}
-WasSent messages (Connect id) = Unit {0}
-WasSent messages (Margin margin) = Unit {0}
+WasSent messages other = Unit {0}
 
 -- what has a number was sent
 among_numbered : (messages : List (Sent Message)) (j : ℕ) (m : Sent Message) → numbered messages j ≡ Some m → AnyByRecursion (λ (s : Sent Message). s ≡ m) messages
@@ -54,14 +46,7 @@ module _ (link : Link) (K : List (Sent Message) → Enclaves → Type 0) (keep :
 
   was_sent : (w : World) (v : ℕ) (h : Handing w v) → WasSent w.messages (handed h)
   was_sent w v (Delivered k m is to) = among_numbered w.messages k m is
-  was_sent w v Ticked = tt
-  was_sent w v Saved = tt
-  was_sent w v (Joins id) = tt
-  was_sent w v (Admits id) = tt
-  was_sent w v (Removes id) = tt
-  was_sent w v (Margins margin) = tt
-  was_sent w v (Asked client number request before is) = tt
-  was_sent w v (Said client core number request has says) = tt
+  was_sent w v other = tt
 
   -- a roll is a call like any other
   rolls_kept : (w : World) (v j : ℕ) (e : Enclave) (o : Option Replica) → value_at w.field.running v ≡ Some e → slice_get e.saved j ≡ o → Kept w → Kept (after_call w v e (Roll j) (rolls_to e j o))

@@ -28,9 +28,7 @@ use Rattle.range_laws.specs.Ranges.{ApartIn, BatchIn, CallIn, ConfIn, EntriesIn,
 
 pub first_any : (role : Role) (first : Conf) → ConfIn first → FirstIn role first
 first_any (Learner taking) first h = tt
-first_any Follower first h = h
-first_any (Candidate votes) first h = h
-first_any (Leader l) first h = h
+first_any other first h = h
 
 -- a configuration has few voters, and a margin of at most 15
 pub conf_few : (c : Conf) → ConfIn c → (c.margin ≤ 15) × (length c.voters ≤ 1000)
@@ -111,12 +109,10 @@ message_later n m le names (PartTaken term at next) h = (omega (arith, h.0, le),
 
 pub answer_later : (n m : ℕ) → n ≤ m → (a : Answer) → AnswerIn n a → AnswerIn m a
 answer_later n m le (answer.Outcome index what) h = (omega (arith, h.0, le), h.1)
-answer_later n m le (answer.NotLeader id) h = h
 answer_later n m le (answer.Busy waiting) h = omega (arith, h, le)
 answer_later n m le (answer.Undecided at kept offered) h = record { index = omega (arith, h.index, le); kept = h.kept; offered = h.offered }
-answer_later n m le (answer.Malformed offset) h = h
-answer_later n m le (answer.Invalid part size) h = h
 answer_later n m le (answer.Halted index) h = omega (arith, h, le)
+answer_later n m le other h = h
 
 sent_later : (n m : ℕ) → n ≤ m → (x : ℕ × Message) → SentIn n x → SentIn m x
 sent_later n m le x h = (h.0, message_later n m le x.1.names x.1.msg h.1)

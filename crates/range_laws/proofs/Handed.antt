@@ -62,10 +62,8 @@ abbrev BlockIn : List ℕ → Type 0
 BlockIn xs = Bytes xs × (length xs ≤ 65536)
 
 abbrev ContentIn : Content → Type 0
-ContentIn (Varint n) = Unit {0}
-ContentIn (Eight x) = Unit {0}
 ContentIn (Block x) = BlockIn x
-ContentIn (Four x) = Unit {0}
+ContentIn other = Unit {0}
 
 record FieldIn (n : ℕ) (f : Field) : Type 0 where
   at : f.content_at ≤ n

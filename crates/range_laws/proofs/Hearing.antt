@@ -1,4 +1,8 @@
 -- What a replica makes of clients, tables, answers to its appends, and changes stays in range.
+use Rattle.log_laws.proofs.History.{all_take}
+use Rattle.replica_model.specs.Call.{answers, Call, empty_batch, still}
+use Rattle.step_walk.proofs.Outcomes as may
+use Rattle.step_walk.proofs.Outcomes.{again_by}
 use Rattle.std.proofs.Common.{◌≡◌, ℕ, ◌+◌, ◌-◌, ◌*◌, ◌≤◌, Bool, true, false, cond, not, ◌&&◌, ◌||◌, ◌==◌, nat_lt, nat_le, min, max, inl, inr, Option, Some, None, Result, Ok, Err, List, [], ◌∷◌, ◌++◌, length, take, drop, refl, sym, subst, ◌∙◌, arith}
 use Rattle.std.specs.Prelude.{IsTrue, IfSome, filter_map, option_map}
 use Rattle.std.specs.List.{AllByRecursion, list_all, cons_option}
@@ -16,7 +20,6 @@ use Rattle.replica_model.specs.Configs.{conf_index}
 use Rattle.agreement.proofs.Places.{conf_index_le}
 use Rattle.values.specs.declared.entry.Body.{Body}
 use Rattle.values.specs.declared.entry.Body.TheVariants.{Ask, Members}
-use Rattle.values.specs.declared.entry.Hash.{Hash}
 use Rattle.values.specs.declared.entry.Point.{Point}
 use Rattle.values.specs.declared.ids.ClientId.{ClientId}
 use Rattle.values.specs.declared.message.Request.{Request}
@@ -28,17 +31,15 @@ use Rattle.client_msgs.specs.declared.fault.RequestFault.TheVariants as faults
 use Rattle.group_quorum.specs.Conf.{Conf}
 use Rattle.group_quorum.specs.Voters.{is_in}
 use Rattle.replica_model.specs.declared.Progress.{Progress}
-use Rattle.replica_model.specs.Path.{Path, Link, same_point, end_point, point}
-use Rattle.replica_model.specs.Keyed.{value_at, put, without, has}
+use Rattle.replica_model.specs.Path.{Path, Link, point}
+use Rattle.replica_model.specs.Keyed.{value_at, put, without}
 use Rattle.replica_model.specs.Message.{Message}
-use Rattle.replica_model.specs.Replica.{Named, Sending, Taking, Role, Learner, Follower, Candidate, Leader, Leading, Replica}
-use Rattle.replica_model.specs.Peers.{is_peer, others, progress_of, with_progress, leads_with, newest, peers}
-use Rattle.replica_model.specs.Call.{Call, empty_batch, still}
-use Rattle.replica_model.specs.Raise.{pushed, raise, raise_and_send, to_every_peer}
-use Rattle.replica_model.specs.Clients.{offset_of, asked, is_busy, open_entries, request_heard, valid_request, on_request}
-use Rattle.replica_model.specs.Graft.{matches}
-use Rattle.replica_model.specs.Heard.{to_peer, accepted_upto, accepted_by, accepted_heard, sent_from, rejected_by, rejected_heard}
-use Rattle.replica_model.specs.Tables.{parts_of, rows_of, named_by, part_message, is_taken, taken_with, expects, takes_whole, takes, take_part, part_heard, sends_next, sending_done, sending_heard, taken_by, part_taken, point_taken}
+use Rattle.replica_model.specs.Replica.{Named, Sending, Taking, Learner, Leader, Leading, Replica}
+use Rattle.replica_model.specs.Peers.{others, progress_of, with_progress, leads_with, newest, peers}
+use Rattle.replica_model.specs.Raise.{pushed, raise, raise_and_send}
+use Rattle.replica_model.specs.Clients.{offset_of, asked, open_entries, on_request}
+use Rattle.replica_model.specs.Heard.{to_peer, accepted_upto, accepted_heard, rejected_heard}
+use Rattle.replica_model.specs.Tables.{parts_of, rows_of, named_by, part_message, taken_with, expects, takes_whole, take_part, part_heard, part_taken, point_taken}
 use Rattle.replica_model.specs.Ticks.{sent_again, all_again, parts_again, leader_tick}
 use Rattle.replica_model.specs.Changes.{first_refusal, log_full, change_pending, voter_count, votes, learner_mark, are_few, join_refusal, admit_refusal, remove_refusal, margin_refusal, unless, joined, join, push_members, with_voter, without_voter, admit, remove, set_margin}
 use Rattle.trace_model.specs.TraceLines.{is_u64, is_client_id, refusal_numbers}
@@ -47,7 +48,7 @@ use Rattle.schedule_model.specs.Reading.{max_u32}
 use Rattle.log_laws.proofs.Ending.{all-append}
 use Rattle.log_laws.proofs.Lookups.{put_cases, without_stood}
 use Rattle.range_laws.proofs.Bounds.{conf_few, with_role, with_term, with_path, nothing_told}
-use Rattle.range_laws.proofs.Raising.{all_filter, all_take, chain_hash, conf_in, with_id_in, peers_in, progress_in, put_progress, raise_in}
+use Rattle.range_laws.proofs.Raising.{all_filter, chain_hash, conf_in, with_id_in, peers_in, progress_in, put_progress, raise_in}
 use Rattle.range_laws.proofs.Confs.{admitted_conf, removed_conf, margin_conf}
 use Rattle.range_laws.proofs.Rules.{id_low, parts_few, u64_of, still_so, saying, refusing, answering, push_in, raised}
 use Rattle.range_laws.specs.Ranges.{IsId, AreIds, ConfIn, BodyIn, EntryIn, PathIn, ProgressIn, SendingIn, LeadingIn, NamedIn, TakingIn, RoleIn, FirstIn, TicketIn, ApartIn, StateIn, MessageIn, SentIn, CallIn}
@@ -113,24 +114,17 @@ module _ (m : ℕ) (small : m ≤ MAX_EVENTS) (link : Link) (hashes : GivesHashe
         })
         first mine.learners
 
-    heard_in : (role : Role) → s.role ≡ role → (request : Request) → BodyIn (Ask client number (canonical_request request)) → CallIn m (request_heard s role client number request)
-    heard_in (Learner taking) is request x = answering m small link hashes s h f client number _ who h.known
-    heard_in Follower is request x = answering m small link hashes s h f client number _ who h.known
-    heard_in (Candidate votes) is request x = answering m small link hashes s h f client number _ who h.known
-    heard_in (Leader l) is request x = cond_both (is_busy s) _ (raise_and_send (still (asked s client number request)) l) (CallIn m)
-        (λ b. answering m small link hashes s h f client number (Busy (open_entries s)) who (omega (arith, h.path.long)))
-        (λ b. asked_in l request (subst (RoleIn m) is h.role) (subst (λ r. FirstIn r s.first) is f) x)
-
-    valid_in : (halted : Option (ℕ × Hash × Hash)) → IfSome halted (ApartIn m) → (request : Request) → BodyIn (Ask client number (canonical_request request)) → CallIn m (valid_request s halted client number request)
-    valid_in (Some d) y request x = answering m small link hashes s h f client number (Halted d.0) who y.index
-    valid_in None y request x = heard_in s.role refl request x
+    untaken_in : (r : Result Request RequestFault) → RequestIn client number r → (why : may.Untaken s r) → CallIn m (answers s client number (may.answer_of why))
+    untaken_in r x (may.Halts d is) = answering m small link hashes s h f client number (Halted d.0) who (subst (λ o. IfSome o (ApartIn m)) is h.halted).index
+    untaken_in r x may.LeadsNot = answering m small link hashes s h f client number _ who h.known
+    untaken_in r x may.Waits = answering m small link hashes s h f client number (Busy (open_entries s)) who (omega (arith, h.path.long))
+    untaken_in r x (may.Malforms fault is) = answering m small link hashes s h f client number (Malformed (offset_of fault)) who (subst (RequestIn client number) is x)
+    untaken_in r x may.NoMember = answering m small link hashes s h f client number (Invalid Nothing 0) who refl
+    untaken_in r x (may.OutOfRange part size is) = answering m small link hashes s h f client number (Invalid part size) who (subst (RequestIn client number) is x)
 
     pub on_request_in : (r : Result Request RequestFault) → RequestIn client number r → CallIn m (on_request s client number r)
-    on_request_in (Ok request) x = valid_in s.halted h.halted request x
-    on_request_in (Err faults.Memory) x = still_so m small link hashes s h f
-    on_request_in (Err (faults.Wire fault)) x = answering m small link hashes s h f client number (Malformed (offset_of fault)) who x
-    on_request_in (Err faults.Nothing) x = answering m small link hashes s h f client number (Invalid Nothing 0) who refl
-    on_request_in (Err (faults.Size part size)) x = answering m small link hashes s h f client number (Invalid part size) who x
+    on_request_in r x = may.on_request_by (CallIn m) s client number r (still_so m small link hashes s h f) (untaken_in r x)
+        (λ l request read is. asked_in l request (subst (RoleIn m) is h.role) (subst (λ r. FirstIn r s.first) is f) (subst (RequestIn client number) read x))
 
   -- ---- tables
   part_in : (s : Replica) (x : Sending) → StateIn m s → ConfIn s.first → SendingIn m x → MessageIn m (part_message link s x)
@@ -145,10 +139,10 @@ module _ (m : ℕ) (small : m ≤ MAX_EVENTS) (link : Link) (hashes : GivesHashe
 
   module _ (s : Replica) (h : StateIn m s) (f : FirstIn s.role s.first) (from : ℕ) (id : IsId from) where
     pub part_heard_in : (part : TablePart) → part.point.index ≤ m → part.parts ≤ MAX_EVENTS → CallIn m (part_heard link s from part)
-    part_heard_in part at parts = cond_both (matches link s part.point) _ _ (CallIn m)
-        (λ b. saying m small link hashes s h f from (PartTaken s.term part.point part.parts) id (h.term, at, u64_of part.parts (omega (arith, parts))))
-        (λ b. saying m small link hashes s h f from (Rejected s.term part.point.index (cond (nat_lt (length s.path) part.point.index) (length s.path) s.promised)) id
-        (h.term, at, cond_both (nat_lt (length s.path) part.point.index) (length s.path) s.promised (λ n. n ≤ m) (λ b. h.path.long) (λ b. h.promised)))
+    part_heard_in part at parts = may.part_heard_by (CallIn m) link s from part
+        (saying m small link hashes s h f from (PartTaken s.term part.point part.parts) id (h.term, at, u64_of part.parts (omega (arith, parts))))
+        (λ hint is. saying m small link hashes s h f from (Rejected s.term part.point.index hint) id
+        (h.term, at, subst (λ n. n ≤ m) (sym is) (cond_both (nat_lt (length s.path) part.point.index) (length s.path) s.promised (λ n. n ≤ m) (λ b. h.path.long) (λ b. h.promised))))
 
   -- what a learner hears
   module _ (s : Replica) (h : StateIn m s) (t : Taking) (is : s.role ≡ Learner t) (from : ℕ) (id : IsId from) (names : Named) where
@@ -192,11 +186,9 @@ module _ (m : ℕ) (small : m ≤ MAX_EVENTS) (link : Link) (hashes : GivesHashe
     take_part_in term le part small_part parts x =
         let t' : Taking = taken_with t part names in
         let y : TakingIn m t' = taken_in part small_part x in
-        cond_both (is_taken link t part) (takes link (record s { term = term }) from t' part names) _ (CallIn m)
-        (λ b. cond_both (part.part + 1 == part.parts) (takes_whole link (record s { term = term }) from part names t'.names.limit) (expects link (record s { term = term; role = Learner t' }) from t') (CallIn m)
-        (λ c. whole_in term le part parts x t'.names.limit y.limit)
-        (λ c. expects_in (record s { term = term; role = Learner t' }) (with_term m s h term s.vote s.known (Learner t') le h.known y) tt t' y))
-        (λ b. expects_in (record s { term = term }) (in_term term le) (subst (λ r. FirstIn r s.first) (sym is) tt) t taking_in)
+        may.take_part_by (CallIn m) link (record s { term = term }) t from part names
+        (λ b. (whole_in term le part parts x t'.names.limit y.limit, expects_in (record s { term = term; role = Learner t' }) (with_term m s h term s.vote s.known (Learner t') le h.known y) tt t' y))
+        (expects_in (record s { term = term }) (in_term term le) (subst (λ r. FirstIn r s.first) (sym is) tt) t taking_in)
 
   -- ---- what a leader hears
   module _ (s : Replica) (h : StateIn m s) (f : ConfIn s.first) (l : Leading) (mine : LeadingIn m l) where
@@ -219,60 +211,43 @@ module _ (m : ℕ) (small : m ≤ MAX_EVENTS) (link : Link) (hashes : GivesHashe
       ];
     }
 
-    accepted_by_in : (l' : Leading) (u : ℕ) → LeadingIn m l' → IsId u → CallIn m (accepted_by s l' u)
-    accepted_by_in l' u x id =
-        let c : Call = raise (still (leads_with s l')) l' in
-        let fine : CallIn m c = raise_in m (still (leads_with s l')) l' (leading l' x [] tt [] tt) in
-        let to_all : CallIn m (to_every_peer c l') = record { state = fine.state; first = fine.first; sent = fine.sent; batch = fine.batch; appends = peers_in m c.state l' f fine.state x.learners } in
-        cond_both (nat_lt s.promised c.state.promised || nat_lt s.committed c.state.committed) (to_every_peer c l') _ (CallIn m)
-        (λ b. to_all)
-        (λ b. cond_both (nat_le (progress_of l' u).next (length s.path)) (to_peer c u) c (CallIn m) (λ b. record { state = fine.state; first = fine.first; sent = fine.sent; batch = fine.batch; appends = (id, tt) }) (λ b. fine))
+    to_one : (u : ℕ) → IsId u → (c : Call) → CallIn m c → CallIn m (to_peer c u)
+    to_one u id c fine = record { state = fine.state; first = fine.first; sent = fine.sent; batch = fine.batch; appends = (id, tt) }
 
-    pub accepted_in : (from : ℕ) (end : Point) (promised : ℕ) → IsId from → end.index ≤ m → CallIn m (still s) → CallIn m (accepted_heard link s (Leader l) from end promised)
-    accepted_in from end promised id le same =
-        let p = progress_in m l from mine in
-        let l' : Leading = with_progress l from (accepted_upto (progress_of l from) end.index promised) in
-        cond_both (is_peer s l from && matches link s end) (accepted_by s l' from) (still s) (CallIn m)
-        (λ b. accepted_by_in l' from (put_progress m l from (accepted_upto (progress_of l from) end.index promised) mine (record { next = omega (arith, p.next, le); mark = omega (arith, p.mark, le) })) id)
-        (λ b. same)
+    module _ (from : ℕ) (id : IsId from) (same : CallIn m (still s)) where
+      pub accepted_in : (end : Point) (promised : ℕ) → end.index ≤ m → CallIn m (accepted_heard link s (Leader l) from end promised)
+      accepted_in end promised le =
+          let p = progress_in m l from mine in
+          let l' : Leading = with_progress l from (accepted_upto (progress_of l from) end.index promised) in
+          let x : LeadingIn m l' = put_progress m l from (accepted_upto (progress_of l from) end.index promised) mine (record { next = omega (arith, p.next, le); mark = omega (arith, p.mark, le) }) in
+          may.accepted_heard_by (CallIn m) link s same l from (to_one from id) end promised
+          (λ fine. record { state = fine.state; first = fine.first; sent = fine.sent; batch = fine.batch; appends = peers_in m (raise (still (leads_with s l')) l').state l' f fine.state x.learners })
+          (λ b. raise_in m (still (leads_with s l')) l' (leading l' x [] tt [] tt))
 
-    pub rejected_in : (from hint : ℕ) → IsId from → CallIn m (still s) → CallIn m (rejected_heard s (Leader l) from hint)
-    rejected_in from hint id same =
-        let l' : Leading = record l { sendings = without l.sendings from } in
-        let next : ℕ = min hint (length s.path) + 1 in
-        let p = progress_in m l' from (ended_sending from) in
-        cond_both (is_peer s l from) (rejected_by s l' from hint) (still s) (CallIn m)
-        (λ b. cond_both (nat_lt hint s.base) (still (leads_with s l')) (sent_from s l' from next) (CallIn m)
-        (λ b. leading l' (ended_sending from) [] tt [] tt)
-        (λ b. cond_both (next == (progress_of l' from).next) (still (leads_with s l')) _ (CallIn m)
-        (λ b. leading l' (ended_sending from) [] tt [] tt)
-        (λ b. leading (with_progress l' from (record (progress_of l' from) { next = next })) (put_progress m l' from (record (progress_of l' from) { next = next }) (ended_sending from) (record { next = omega (arith, h.path.long); mark = p.mark })) (from ∷ []) (id, tt) [] tt)))
-        (λ b. same)
+      pub rejected_in : (hint : ℕ) → CallIn m (rejected_heard s (Leader l) from hint)
+      rejected_in hint =
+          let l' : Leading = record l { sendings = without l.sendings from } in
+          let next : ℕ = min hint (length s.path) + 1 in
+          let p = progress_in m l' from (ended_sending from) in
+          may.rejected_heard_by (CallIn m) link s same l from (to_one from id) hint
+          (leading l' (ended_sending from) [] tt [] tt)
+          (leading (with_progress l' from (record (progress_of l' from) { next = next })) (put_progress m l' from (record (progress_of l' from) { next = next }) (ended_sending from) (record { next = omega (arith, h.path.long); mark = p.mark })) [] tt [] tt)
 
-    sending_in : (from : ℕ) → IsId from → (sending : Sending) → SendingIn m sending → (next parts : ℕ) → parts ≤ MAX_EVENTS → CallIn m (still s) → CallIn m (sending_heard link s l from sending next parts)
-    sending_in from id sending y next parts few same =
-        let on : Sending = record sending { part = next } in
-        let p = progress_in m l from mine in
-        cond_both (next == parts) (sending_done s l from (length sending.path)) _ (CallIn m)
-        (λ b. leading (with_progress (record l { sendings = without l.sendings from }) from (record (progress_of l from) { next = length sending.path + 1 }))
-        (put_progress m (record l { sendings = without l.sendings from }) from (record (progress_of l from) { next = length sending.path + 1 }) (ended_sending from) (record { next = omega (arith, y.path.long); mark = p.mark })) (from ∷ []) (id, tt) [] tt)
-        (λ b. cond_both (nat_lt sending.part next && nat_lt next parts) (sends_next link s l from on) (still s) (CallIn m)
-        (λ c.
-        let below = ltb-true next parts (and_parts (nat_lt sending.part next) (nat_lt next parts) c).1 in
-        let fine : SendingIn m on = record { path = y.path; part = omega (arith, below, few) } in
-        leading (record l { sendings = put l.sendings from on }) (put_sending from on fine) [] tt ((from, part_message link s on) ∷ []) ((id, part_in s on h f fine), tt))
-        (λ c. same))
-
-    taken_by_in : (from : ℕ) → IsId from → (o : Option Sending) → value_at l.sendings from ≡ o → (point : Point) (next : ℕ) → CallIn m (still s) → CallIn m (taken_by link s l from o point next)
-    taken_by_in from id None is point next same = same
-    taken_by_in from id (Some sending) is point next same = cond_both (same_point point (end_point link sending.path)) _ (still s) (CallIn m)
-        (λ b. sending_in from id sending (mine.sendings from sending is) next (parts_of (rows_of (named_by s sending.path))) (parts_few m (named_by s sending.path) (mine.sendings from sending is).path small) same)
-        (λ b. same)
-
-    pub taken_heard_in : (from : ℕ) → IsId from → (point : Point) (next : ℕ) → CallIn m (still s) → CallIn m (part_taken link s (Leader l) from point next)
-    taken_heard_in from id point next same = cond_both (is_in l.learners from) _ (still s) (CallIn m)
-        (λ b. taken_by_in from id (value_at l.sendings from) refl point next same)
-        (λ b. same)
+      pub taken_heard_in : (point : Point) (next : ℕ) → CallIn m (part_taken link s (Leader l) from point next)
+      taken_heard_in point next = may.part_taken_by (CallIn m) link s same l from (to_one from id) point next
+          (λ sending is.
+          let l' : Leading = record l { sendings = without l.sendings from } in
+          let y = mine.sendings from sending is in
+          let parts : ℕ = parts_of (rows_of (named_by s sending.path)) in
+          let few : parts ≤ MAX_EVENTS = parts_few m (named_by s sending.path) y.path small in
+          let p = progress_in m l from mine in
+          let on : Sending = record sending { part = next } in (
+            leading _ (put_progress m l' from (record (progress_of l' from) { next = length sending.path + 1 }) (ended_sending from) (record { next = omega (arith, y.path.long); mark = p.mark })) [] tt [] tt,
+            λ later.
+                let below = ltb-true next parts (and_parts (nat_lt sending.part next) (nat_lt next parts) later).1 in
+                let fine : SendingIn m on = record { path = y.path; part = omega (arith, below, few) } in
+                leading (record l { sendings = put l.sendings from on }) (put_sending from on fine) [] tt ((from, part_message link s on) ∷ []) ((id, part_in s on h f fine), tt),
+          ))
 
     -- a leader's tick
     one_part : (u : ℕ) → IsId u → (o : Option Sending) (sent : List (ℕ × Message)) → value_at l.sendings u ≡ o → AllByRecursion (SentIn m) sent → AllByRecursion (SentIn m) (cons_option (option_map (λ sending. (u, part_message link s sending)) o) sent)
@@ -286,16 +261,11 @@ module _ (m : ℕ) (small : m ≤ MAX_EVENTS) (link : Link) (hashes : GivesHashe
     sent_again_in : (p : Progress) → ProgressIn m p → ProgressIn m (sent_again s p)
     sent_again_in p x = cond_both (p.mark == 0) p (record p { next = max p.mark s.base + 1 }) (ProgressIn m) (λ b. x) (λ b. record { next = omega (arith, x.mark, h.base); mark = x.mark })
 
-    again_in : (us : List ℕ) (l' : Leading) → LeadingIn m l' → LeadingIn m (all_again s l' us)
-    again_in [] l' x = x
-    again_in (u ∷ us) l' x = again_in us (cond (has l'.sendings u) l' (with_progress l' u (sent_again s (progress_of l' u))))
-        (cond_both (has l'.sendings u) l' (with_progress l' u (sent_again s (progress_of l' u))) (LeadingIn m) (λ b. x) (λ b. put_progress m l' u (sent_again s (progress_of l' u)) x (sent_again_in (progress_of l' u) (progress_in m l' u x))))
-
     pub leader_tick_in : CallIn m (leader_tick link s l)
     leader_tick_in =
         let l' : Leading = all_again s l (peers s l) in
         let ids : AreIds (peers s l) = peers_in m s l f h mine.learners in
-        let x : LeadingIn m l' = again_in (peers s l) l mine in
+        let x : LeadingIn m l' = again_by (LeadingIn m) s (λ l' u x. put_progress m l' u (sent_again s (progress_of l' u)) x (sent_again_in (progress_of l' u) (progress_in m l' u x))) (peers s l) l mine in
         leading l' x (peers (leads_with s l') l) (peers_in m (leads_with s l') l f (lead_in l' x) mine.learners) (parts_again link s l) (parts_sent (peers s l) ids)
 
     -- ---- changes

@@ -1,7 +1,8 @@
 -- A committed index that rises, and the end of a call, stay in range.
+use Rattle.log_laws.proofs.History.{all_take}
 use Rattle.std.proofs.Common.{◌≡◌, ℕ, ◌+◌, ◌-◌, ◌<◌, ◌≤◌, zero, suc, max, not, ◌==◌, ◌&&◌, nat_le, nat_lt, Bool, Option, Some, None, List, [], ◌∷◌, length, take, drop, refl, sym, subst, ◌∙◌, arith, inl, inr}
-use Rattle.std.specs.Prelude.{IsTrue, IfSome, filter, filter_map, unwrap_or}
-use Rattle.std.specs.List.{AllByRecursion, list_all, cons_option}
+use Rattle.std.specs.Prelude.{IsTrue, filter, filter_map, unwrap_or}
+use Rattle.std.specs.List.{AllByRecursion, cons_option}
 use Rattle.std.proofs.lemmas.Bool.{cond_both, cases_eq, and_parts, ltb-true}
 use Rattle.std.proofs.lemmas.List.{length-take, length-drop}
 use Rattle.std.proofs.lemmas.Option.{same_Some}
@@ -20,7 +21,7 @@ use Rattle.replica_model.specs.Path.{Path, Link, chain, chain_from, first_hash}
 use Rattle.replica_model.specs.Configs.{conf, conf_index, older_conf, changed_by}
 use Rattle.replica_model.specs.Keyed.{value_at, has}
 use Rattle.replica_model.specs.Message.{plain}
-use Rattle.replica_model.specs.Replica.{Ticket, Role, Learner, Follower, Candidate, Leader, Leading, Replica}
+use Rattle.replica_model.specs.Replica.{Ticket, Role, Follower, Leader, Leading, Replica}
 use Rattle.replica_model.specs.Enough.{greatest_upto}
 use Rattle.replica_model.specs.Folds.{reply_of}
 use Rattle.replica_model.specs.Peers.{with_id, united, is_pending, is_voter, progress_of, with_progress, leads_with, peers, voters_counted, newest}
@@ -46,11 +47,6 @@ module _ {A : Type 0} (P : A → Type 0) where
   all_drop zero xs h = h
   all_drop (suc k) [] h = tt
   all_drop (suc k) (x ∷ xs) h = all_drop k xs h.1
-
-  pub all_take : (k : ℕ) (xs : List A) → AllByRecursion P xs → AllByRecursion P (take k xs)
-  all_take zero xs h = tt
-  all_take (suc k) [] h = tt
-  all_take (suc k) (x ∷ xs) h = (h.0, all_take k xs h.1)
 
 -- ---- what is read of a path
 module _ (link : Link) (hashes : GivesHashes link) where
@@ -195,24 +191,20 @@ module _ (n : ℕ) where
         id (append_in s (progress_of l v).next some p.next h.state)
 
     send_append_in : (c : Call) (role : Role) (v : ℕ) → c.state.role ≡ role → IsId v → CallIn n c → CallIn n (send_append link c role v)
-    send_append_in c (Learner taking) v is id h = h
-    send_append_in c Follower v is id h = h
-    send_append_in c (Candidate votes) v is id h = h
     send_append_in c (Leader l) v is id h = cond_both (can_append c.state l v) (appended_to link c l v) c (CallIn n)
         (λ b. appended_in c l v is id (omega (arith, ltb-true c.state.base (progress_of l v).next (and_parts (not (has l.sendings v)) (nat_lt c.state.base (progress_of l v).next) b).1)) h)
         (λ b. h)
+    send_append_in c other v is id h = h
 
     appends_in : (vs : List ℕ) (c : Call) → AreIds vs → CallIn n c → CallIn n (send_appends link c vs)
     appends_in [] c ids h = record { state = h.state; first = h.first; sent = h.sent; batch = h.batch; appends = tt }
     appends_in (v ∷ vs) c ids h = appends_in vs (send_append link c c.state.role v) ids.1 (send_append_in c c.state.role v refl ids.0 h)
 
     stopped_in : (s : Replica) (role : Role) → s.role ≡ role → StateIn n s → FirstIn s.role s.first → StateIn n (stepped_down s role) × FirstIn (stepped_down s role).role (stepped_down s role).first
-    stopped_in s (Learner taking) is h f = (h, f)
-    stopped_in s Follower is h f = (h, f)
-    stopped_in s (Candidate votes) is h f = (h, f)
     stopped_in s (Leader l) is h f = cond_both (not (is_voter s) && nat_le (conf_index s.path) s.committed) (record s { role = Follower; known = 0 }) s (λ x. StateIn n x × FirstIn x.role x.first)
         (λ b. (with_role_known n s h Follower 0 tt (omega arith), subst (λ r. FirstIn r s.first) is f))
         (λ b. (h, f))
+    stopped_in s other is h f = (h, f)
 
     pub ended_in : (c : Call) (halted : Option (ℕ × Hash × Hash)) → CallIn n c → CallIn n (ended link c halted)
     ended_in c (Some d) h = h

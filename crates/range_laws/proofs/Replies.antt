@@ -65,9 +65,7 @@ record TableIn (t : RecordTable) : Type 0 where
 
 abbrev RequestParts : Request → Type 0
 RequestParts (Backup secret pin tries) = Bytes secret × (length secret ≤ 48) × (tries ≤ max_u32)
-RequestParts (Restore pin) = Unit {0}
-RequestParts Delete = Unit {0}
-RequestParts (Expose secret) = Unit {0}
+RequestParts other = Unit {0}
 
 record AskIn (ask : ClientAsk) : Type 0 where
   number : ask.number ≤ max_u64
@@ -154,9 +152,7 @@ parts_in (Backup secret pin tries) v h =
     let body = (bytes_split (tag 2 2 ++ varint (length (request_fields (Backup secret pin tries)))) (request_fields (Backup secret pin tries)) h).1 in
     let front = (bytes_split (block_field 1 secret ++ block_field 2 pin.0) (varint_field 3 tries) body).0 in
     (block_split 1 secret (bytes_split (block_field 1 secret) (block_field 2 pin.0) front).0, v.0.1, omega (arith, v.1.1))
-parts_in (Restore pin) v h = tt
-parts_in Delete v h = tt
-parts_in (Expose secret) v h = tt
+parts_in other v h = tt
 
 asked_in : (client : ClientId) (number : ℕ) (bytes : List ℕ) → BodyIn (Ask client number bytes) → IfSome (ask_of client number (request_of bytes)) AskIn
 asked_in client number bytes h =

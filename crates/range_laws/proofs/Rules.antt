@@ -1,5 +1,8 @@
 -- Each rule of a replica stays in range.
-use Rattle.std.proofs.Common.{◌≡◌, ℕ, ◌+◌, ◌-◌, ◌≤◌, zero, suc, Bool, true, false, not, ◌&&◌, ◌||◌, ◌==◌, nat_lt, nat_le, min, max, inl, inr, Option, Some, None, List, [], ◌∷◌, ◌++◌, length, take, map, refl, sym, subst, ◌∙◌, arith}
+use Rattle.log_laws.proofs.History.{all_take}
+use Rattle.replica_model.specs.Graft.{accepts, Offer, points_from, points_of, end_of, Difference, hash_at, differing, first_difference, kept_length, added, members_of, differs_at, refusal_hint, following, spliced, replaced, undecided, undecided_at, grafted, halts, append_heard}
+use Rattle.step_walk.proofs.Outcomes as may
+use Rattle.std.proofs.Common.{◌≡◌, ℕ, ◌+◌, ◌-◌, ◌≤◌, zero, suc, Bool, true, false, not, ◌&&◌, ◌||◌, ◌==◌, nat_lt, nat_le, min, max, inl, inr, Option, Some, None, List, [], ◌∷◌, ◌++◌, length, take, map, sym, subst, ◌∙◌, arith}
 use Rattle.std.specs.Prelude.{IsTrue, IfSome, filter, filter_map, option_map, unwrap_or, slice_get, fold}
 use Rattle.std.specs.List.{AllByRecursion, list_all, cons_option}
 use Rattle.std.proofs.lemmas.Bool.{cond_both, leb-true, le-leb, and_parts}
@@ -15,7 +18,7 @@ use Rattle.values.specs.declared.entry.Point.{Point}
 use Rattle.values.specs.declared.ids.ClientId.{ClientId}
 use Rattle.values.specs.declared.message.Answer.{Answer}
 use Rattle.values.specs.declared.message.Request.{Request}
-use Rattle.values.specs.declared.message.Request.TheVariants.{Backup, Restore, Delete, Expose}
+use Rattle.values.specs.declared.message.Request.TheVariants.{Backup}
 use Rattle.values.specs.declared.message.Response.{Response}
 use Rattle.values.specs.declared.message.Reply.{Reply}
 use Rattle.values.specs.declared.message.Reply.TheVariants.{Stale, TableFull}
@@ -34,12 +37,11 @@ use Rattle.values.specs.declared.peer.PeerMsg.TheVariants.{AskVote, Vote, Accept
 use Rattle.replica_model.specs.declared.Progress.{Progress}
 use Rattle.replica_model.specs.Path.{Path, Link, chain, same_hash, last_term, term_at, point}
 use Rattle.replica_model.specs.Message.{plain}
-use Rattle.replica_model.specs.Replica.{Named, Ticket, Role, Learner, Follower, Candidate, Leader, Leading, Replica}
+use Rattle.replica_model.specs.Replica.{Named, Ticket, Follower, Candidate, Leader, Leading, Replica}
 use Rattle.replica_model.specs.Peers.{others, voters_counted}
 use Rattle.replica_model.specs.Call.{Call, empty_batch, still, says, answers, refuses}
 use Rattle.replica_model.specs.Raise.{numbered_from, pushed, raise, raise_and_send}
-use Rattle.replica_model.specs.Votes.{is_elected, leading_anew, led, win, stood, asks_votes, stands, stand, as_new, vote_asked, counted, vote_heard, with_vote}
-use Rattle.replica_model.specs.Graft.{Offer, points_from, points_of, end_of, Difference, hash_at, differing, first_difference, kept_length, added, members_of, differs_at, refusal_hint, following, answered, spliced, replaced, undecided, undecided_at, grafted, graft, halts, conflict_or_graft, append_heard}
+use Rattle.replica_model.specs.Votes.{leading_anew, led, win, stood, asks_votes, stands, stand, vote_asked, vote_heard, with_vote}
 use Rattle.replica_model.specs.Tables.{parts_of, rows_of}
 use Rattle.trace_model.specs.TraceLines.{is_hash, is_u64, is_client_id, refusal_numbers}
 use Rattle.trace_model.specs.Hashing.{GivesHashes}
@@ -48,7 +50,7 @@ use Rattle.log_laws.proofs.Ending.{all-append}
 use Rattle.log_laws.proofs.Offered.{found_within}
 use Rattle.log_laws.proofs.Lookups.{map_stands}
 use Rattle.range_laws.proofs.Bounds.{first_any, with_role, with_role_known, with_term, with_path, with_halted, nothing_told, still_in, send_in}
-use Rattle.range_laws.proofs.Raising.{all_filter, all_drop, all_take, chain_hash, voters_in, peers_in, commit_in, raise_in, raise_send_in}
+use Rattle.range_laws.proofs.Raising.{all_filter, all_drop, chain_hash, voters_in, peers_in, commit_in, raise_in, raise_send_in}
 use Rattle.range_laws.specs.Ranges.{IsId, AreIds, ConfIn, BodyIn, EntryIn, EntriesIn, PathIn, ProgressIn, LeadingIn, FirstIn, TicketIn, ApartIn, StateIn, AppendIn, MessageIn, SentIn, AnswerIn, AnsweredIn, BatchIn, CallIn}
 
 pub id_low : (v : ℕ) → IsId v → v ≤ 65535
@@ -81,9 +83,7 @@ known_few t c n q row = cond_both (nat_le n row.last) (t, Stale row.last) (after
 
 unknown_few : (t : RecordTable) (c : ClientId) (n : ℕ) (q : Request) → length (ask_unknown t c n q).0.rows ≤ length t.rows + 1
 unknown_few t c n (Backup secret pin tries) = cond_both (length t.rows == t.limit) (t, TableFull t.limit) (after_acting t c n (act (Backup secret pin tries) None)) (λ (x : RecordTable × Reply). length x.0.rows ≤ length t.rows + 1) (λ b. omega arith) (λ b. acting_few t c n (act (Backup secret pin tries) None))
-unknown_few t c n (Restore pin) = omega arith
-unknown_few t c n Delete = omega arith
-unknown_few t c n (Expose secret) = omega arith
+unknown_few t c n other = omega arith
 
 apply_few : (o : Option Row) (t : RecordTable) (c : ClientId) (n : ℕ) (q : Request) → length (apply_by o t c n q).0.rows ≤ length t.rows + 1
 apply_few (Some row) t c n q = known_few t c n q row
@@ -173,40 +173,31 @@ module _ (m : ℕ) (small : m ≤ MAX_EVENTS) (link : Link) (hashes : GivesHashe
     asks_in [] x = tt
     asks_in (v ∷ ids) x = ((x.0, (h.term, h.path.long, term_in m s.path (length s.path) h.path.entries)), asks_in ids x.1)
 
-    stands_in : CallIn m (stands s)
-    stands_in = cond_both (is_elected s (s.me ∷ [])) (win s) (asks_votes s) (CallIn m)
-        (λ b. win_in)
-        (λ b. record {
-          state = h;
-          first = first_any s.role s.first f;
-          sent = asks_in (others s.me (voters_counted s)) (all_filter IsId (λ v. not (v == s.me)) (voters_counted s) (voters_in m s f h));
-          batch = nothing_told m;
-          appends = tt;
-        })
-
-    counted_in : (votes : List ℕ) → (CallIn m (win (record s { role = Candidate votes }))) → CallIn m (counted s votes)
-    counted_in votes won = cond_both (is_elected s votes) (win (record s { role = Candidate votes })) (still (record s { role = Candidate votes })) (CallIn m)
-        (λ b. won)
-        (λ b. still_in m (record s { role = Candidate votes }) (with_role m s h (Candidate votes) tt) f)
+    asks_all_in : CallIn m (asks_votes s)
+    asks_all_in = record {
+      state = h;
+      first = first_any s.role s.first f;
+      sent = asks_in (others s.me (voters_counted s)) (all_filter IsId (λ v. not (v == s.me)) (voters_counted s) (voters_in m s f h));
+      batch = nothing_told m;
+      appends = tt;
+    }
 
   module _ (s : Replica) (h : StateIn m s) (f : ConfIn s.first) (room : length s.path + 1 ≤ m) where
-    pub vote_heard_in : (role : Role) (from : ℕ) (granted : Bool) → CallIn m (vote_heard s role from granted)
-    vote_heard_in (Learner taking) from granted = still_so s h (first_any s.role s.first f)
-    vote_heard_in Follower from granted = still_so s h (first_any s.role s.first f)
-    vote_heard_in (Candidate votes) from granted = cond_both granted (counted s (with_vote s votes from)) (still s) (CallIn m)
-        (λ b. counted_in s h f room (with_vote s votes from) (win_in (record s { role = Candidate (with_vote s votes from) }) (with_role m s h (Candidate (with_vote s votes from)) tt) f room))
-        (λ b. still_so s h (first_any s.role s.first f))
-    vote_heard_in (Leader l) from granted = still_so s h (first_any s.role s.first f)
+    pub vote_heard_in : (votes : List ℕ) (from : ℕ) (granted : Bool) → CallIn m (vote_heard s (Candidate votes) from granted)
+    vote_heard_in votes from granted =
+        let s' : Replica = record s { role = Candidate (with_vote s votes from) } in
+        let h' : StateIn m s' = with_role m s h (Candidate (with_vote s votes from)) tt in
+        may.vote_heard_by (CallIn m) s (still_so s h (first_any s.role s.first f)) votes from granted (λ b. (λ b. win_in s' h' f room, still_in m s' h' f))
 
     pub stand_in : s.term + 1 ≤ m → CallIn m (stand s)
-    stand_in more = cond_both _ (stands (stood s)) (still s) (CallIn m)
-        (λ b. stands_in (stood s) (with_term m s h (s.term + 1) s.me 0 (Candidate (s.me ∷ [])) more (omega arith) tt) f room)
-        (λ b. still_so s h (first_any s.role s.first f))
+    stand_in more =
+        let h' : StateIn m (stood s) = with_term m s h (s.term + 1) s.me 0 (Candidate (s.me ∷ [])) more (omega arith) tt in
+        may.stand_by (CallIn m) s (still_so s h (first_any s.role s.first f)) (λ b. (λ b. win_in (stood s) h' f room, asks_all_in (stood s) h' f room))
 
     pub vote_asked_in : (from last_index term : ℕ) → IsId from → CallIn m (vote_asked s from last_index term)
-    vote_asked_in from last_index term id = cond_both ((s.vote == 0 || s.vote == from) && as_new s.path last_index term) _ _ (CallIn m)
+    vote_asked_in from last_index term id = may.vote_asked_by (CallIn m) s from last_index term
         (λ b. saying (record s { vote = from }) (with_term m s h s.term from s.known s.role h.term h.known h.role) (first_any s.role s.first f) from (Vote s.term true) id h.term)
-        (λ b. saying s h (first_any s.role s.first f) from (Vote s.term false) id h.term)
+        (saying s h (first_any s.role s.first f) from (Vote s.term false) id h.term)
 
   -- ---- an append heard
   module _ (s : Replica) (h : StateIn m s) (f : ConfIn s.first) where
@@ -283,11 +274,14 @@ module _ (m : ℕ) (small : m ≤ MAX_EVENTS) (link : Link) (hashes : GivesHashe
       hint_in d = cond_both (nat_lt (length s.path) o.prev.index) (Some (length s.path)) _ (λ z. IfSome z (λ n. n ≤ m)) (λ b. h.path.long)
           (λ b. cond_both (differs_at d o.prev.index || nat_lt (end_of o) s.base) (Some s.promised) None (λ z. IfSome z (λ n. n ≤ m)) (λ c. h.promised) (λ c. tt))
 
-      answered_in : (d : Option Difference) → IfSome d (ApartIn m) → (hint : Option ℕ) → IfSome hint (λ n. n ≤ m) → CallIn m (answered link t d o hint)
-      answered_in d y (Some hint) le = saying t following_in f o.from (Rejected t.term o.prev.index hint) from (h.term, omega (arith, x.ends), le)
-      answered_in d y None le =
+      accepts_in : (d : Option Difference) → IfSome d (ApartIn m) → CallIn m (accepts link (grafted t d o) o)
+      accepts_in d y =
           let c = commit_in m (record (still (spliced t (kept_length s.path d) o)) { batch = replaced t d (kept_length s.path d) o }) (min o.commit (min o.promise (end_of o))) (omega (arith, x.committed)) (spliced_in d y) in
           send_in m (grafted t d o) o.from (plain (Accepted (grafted t d o).state.term (point link (grafted t d o).state.path (end_of o)) (min (grafted t d o).state.promised (end_of o)))) c from (c.state.term, x.ends, omega (arith, c.state.promised))
+
+      apart_in : (d : Option Difference) → first_difference link s (points_of link o) ≡ d → IfSome d (ApartIn m)
+      apart_in None is = tt
+      apart_in (Some d) is = difference_in o x d is
 
       halts_in : (d : Difference) → ApartIn m d → CallIn m (halts s d)
       halts_in d y = record {
@@ -299,12 +293,7 @@ module _ (m : ℕ) (small : m ≤ MAX_EVENTS) (link : Link) (hashes : GivesHashe
       }
 
       pub append_heard_in : CallIn m (append_heard link s o)
-      append_heard_in = judged (first_difference link s (points_of link o)) refl
-        where
-          judged : (d : Option Difference) → first_difference link s (points_of link o) ≡ d → CallIn m (conflict_or_graft link s d o)
-          judged None is = answered_in None tt (refusal_hint t None o) (hint_in None)
-          judged (Some d) is =
-              let y = difference_in o x d is in
-              cond_both (nat_le d.0 s.promised) (halts s d) (graft link s (Some d) o) (CallIn m)
-              (λ b. halts_in d y)
-              (λ b. answered_in (Some d) y (refusal_hint t (Some d) o) (hint_in (Some d)))
+      append_heard_in = may.append_heard_by (CallIn m) link s o
+          (λ d is b. halts_in d (difference_in o x d is))
+          (λ d hint is at. saying t following_in f o.from (Rejected t.term o.prev.index hint) from (h.term, omega (arith, x.ends), subst (λ z. IfSome z (λ n. n ≤ m)) at (hint_in d)))
+          (λ d is calm at. accepts_in d (apart_in d is))

@@ -1,126 +1,37 @@
 -- One call of a replica stays in range.
-use Rattle.std.proofs.Common.{◌≡◌, ℕ, ◌+◌, ◌≤◌, ◌&&◌, nat_lt, max, Option, Some, None, length, refl, subst, arith}
+use Rattle.group_quorum.specs.Conf.{Conf}
+use Rattle.std.proofs.Common.{false, ◌≡◌, ℕ, ◌+◌, ◌≤◌, ◌&&◌, max, length, subst, arith}
+use Rattle.step_walk.specs.Rules.{risen, IsHolder, Rules}
+use Rattle.replica_model.specs.Message.{plain}
+use Rattle.replica_model.specs.Call.{says, Input, Tick, Peer, Client, Join, Admit, Remove, Margin, Call, still}
+use Rattle.step_walk.proofs.Walk.{followed_is, holds_behind, step_keeps}
+use Rattle.range_laws.specs.Ranges.{IsId, ConfIn, RoleIn, FirstIn, LeadingIn, StateIn, MsgIn, MessageIn, CallIn}
 use Rattle.std.specs.Prelude.{IsTrue}
-use Rattle.std.proofs.lemmas.Bool.{cond_both}
 use Rattle.values.specs.declared.limits.TheConstants.{MAX_EVENTS}
 use Rattle.values.specs.declared.batch.Refusal.TheVariants.{NotLeader}
-use Rattle.values.specs.declared.entry.Hash.{Hash}
-use Rattle.values.specs.declared.entry.Point.{Point}
 use Rattle.values.specs.declared.peer.PeerMsg.{PeerMsg}
-use Rattle.values.specs.declared.peer.PeerMsg.TheVariants.{AskVote, Vote, Append, Accepted, Rejected, Part, PartTaken}
+use Rattle.values.specs.declared.peer.PeerMsg.TheVariants.{Vote, Rejected}
 use Rattle.client_msgs.specs.Reading.{request_of}
 use Rattle.replica_model.specs.Path.{Link}
-use Rattle.replica_model.specs.Message.{Message}
-use Rattle.replica_model.specs.Replica.{Named, Taking, Role, Learner, Follower, Candidate, Leader, Leading, Replica}
-use Rattle.replica_model.specs.Call.{Input, Tick, Peer, Client, Join, Admit, Remove, Margin, Call, still}
-use Rattle.replica_model.specs.Changes.{join, admit, remove, set_margin, at_leader}
+use Rattle.replica_model.specs.Replica.{Named, Role, Learner, Leader, Leading, Replica}
 use Rattle.values.specs.Terms.{term_of}
-use Rattle.replica_model.specs.Term.{followed, higher_term}
-use Rattle.replica_model.specs.Ticks.{tick}
-use Rattle.replica_model.specs.Heard.{accepted_heard, rejected_heard}
-use Rattle.replica_model.specs.Tables.{part_taken, learner_hears}
-use Rattle.replica_model.specs.Step.{hears, hears_older, holder_hears, peer_hears, acts_on, acts_halted, acts, step}
+use Rattle.replica_model.specs.Term.{followed}
+use Rattle.replica_model.specs.Step.{step}
 use Rattle.trace_model.specs.TraceLines.{is_client_id, is_u64}
 use Rattle.trace_model.specs.Hashing.{GivesHashes}
 use Rattle.range_laws.proofs.Bounds.{first_any, with_term}
 use Rattle.range_laws.proofs.Raising.{ended_in}
 use Rattle.range_laws.proofs.Rules.{still_so, saying, refusing, u64_of, vote_asked_in, vote_heard_in, stand_in, append_heard_in}
 use Rattle.range_laws.proofs.Hearing.{RequestIn, one_number, on_request_in, part_heard_in, take_part_in, accepted_in, rejected_in, taken_heard_in, leader_tick_in, join_in, admit_in, remove_in, margin_in}
-use Rattle.range_laws.specs.Ranges.{IsId, ConfIn, RoleIn, FirstIn, LeadingIn, StateIn, MsgIn, MessageIn, CallIn}
 
 module _ (m : ℕ) (small : m ≤ MAX_EVENTS) (link : Link) (hashes : GivesHashes link) where
-  accepted_so : (s : Replica) (h : StateIn m s) (f : ConfIn s.first) (role : Role) → s.role ≡ role → (from : ℕ) → IsId from → (end : Point) (promised : ℕ) → end.index ≤ m → CallIn m (accepted_heard link s role from end promised)
-  accepted_so s h f (Learner taking) is from id end promised le = still_so m small link hashes s h (first_any s.role s.first f)
-  accepted_so s h f Follower is from id end promised le = still_so m small link hashes s h (first_any s.role s.first f)
-  accepted_so s h f (Candidate votes) is from id end promised le = still_so m small link hashes s h (first_any s.role s.first f)
-  accepted_so s h f (Leader l) is from id end promised le = accepted_in m small link hashes s h f l (subst (RoleIn m) is h.role) from end promised id le (still_so m small link hashes s h (first_any s.role s.first f))
-
-  rejected_so : (s : Replica) (h : StateIn m s) (f : ConfIn s.first) (role : Role) → s.role ≡ role → (from hint : ℕ) → IsId from → CallIn m (rejected_heard s role from hint)
-  rejected_so s h f (Learner taking) is from hint id = still_so m small link hashes s h (first_any s.role s.first f)
-  rejected_so s h f Follower is from hint id = still_so m small link hashes s h (first_any s.role s.first f)
-  rejected_so s h f (Candidate votes) is from hint id = still_so m small link hashes s h (first_any s.role s.first f)
-  rejected_so s h f (Leader l) is from hint id = rejected_in m small link hashes s h f l (subst (RoleIn m) is h.role) from hint id (still_so m small link hashes s h (first_any s.role s.first f))
-
-  taken_so : (s : Replica) (h : StateIn m s) (f : ConfIn s.first) (role : Role) → s.role ≡ role → (from : ℕ) → IsId from → (point : Point) (next : ℕ) → CallIn m (part_taken link s role from point next)
-  taken_so s h f (Learner taking) is from id point next = still_so m small link hashes s h (first_any s.role s.first f)
-  taken_so s h f Follower is from id point next = still_so m small link hashes s h (first_any s.role s.first f)
-  taken_so s h f (Candidate votes) is from id point next = still_so m small link hashes s h (first_any s.role s.first f)
-  taken_so s h f (Leader l) is from id point next = taken_heard_in m small link hashes s h f l (subst (RoleIn m) is h.role) from id point next (still_so m small link hashes s h (first_any s.role s.first f))
-
-  hears_in : (s : Replica) → StateIn m s → ConfIn s.first → length s.path + 1 ≤ m → (from : ℕ) → IsId from → (names : Named) (x : PeerMsg) → MsgIn m names x → CallIn m (hears link s from x)
-  hears_in s h f room from id names (AskVote term last_index last_term) x = vote_asked_in m small link hashes s h f room from last_index last_term id
-  hears_in s h f room from id names (Vote term granted) x = vote_heard_in m small link hashes s h f room s.role from granted
-  hears_in s h f room from id names (Append term prev entries promise commit) x = append_heard_in m small link hashes s h f (record { from = from; prev = prev; entries = entries; promise = promise; commit = commit }) id x.1
-  hears_in s h f room from id names (Accepted term end promised) x = accepted_so s h f s.role refl from id end promised x.1
-  hears_in s h f room from id names (Rejected term asked hint) x = rejected_so s h f s.role refl from hint id
-  hears_in s h f room from id names (Part term part) x = part_heard_in m small link hashes s h (first_any s.role s.first f) from id part x.1 x.3
-  hears_in s h f room from id names (PartTaken term point next) x = taken_so s h f s.role refl from id point next
-
-  older_in : (s : Replica) → StateIn m s → ConfIn s.first → (from : ℕ) → IsId from → (names : Named) (x : PeerMsg) → MsgIn m names x → CallIn m (hears_older link s from x)
-  older_in s h f from id names (AskVote term last_index last_term) x = saying m small link hashes s h (first_any s.role s.first f) from (Vote s.term _) id h.term
-  older_in s h f from id names (Vote term granted) x = still_so m small link hashes s h (first_any s.role s.first f)
-  older_in s h f from id names (Append term prev entries promise commit) x = saying m small link hashes s h (first_any s.role s.first f) from (Rejected s.term prev.index s.promised) id (h.term, omega (arith, x.1.ends), h.promised)
-  older_in s h f from id names (Accepted term end promised) x = still_so m small link hashes s h (first_any s.role s.first f)
-  older_in s h f from id names (Rejected term asked hint) x = still_so m small link hashes s h (first_any s.role s.first f)
-  older_in s h f from id names (Part term part) x = saying m small link hashes s h (first_any s.role s.first f) from (Rejected s.term part.point.index s.promised) id (h.term, x.1, h.promised)
-  older_in s h f from id names (PartTaken term point next) x = taken_so s h f s.role refl from id point next
-
-  followed_in : (role : Role) → RoleIn m role → RoleIn m (followed role)
-  followed_in (Learner taking) h = h
-  followed_in Follower h = tt
-  followed_in (Candidate votes) h = tt
-  followed_in (Leader l) h = tt
+  conf_of_holder : (role : Role) (first : Conf) → IsHolder role → FirstIn role first → ConfIn first
+  conf_of_holder (Learner taking) first holder f = absurd holder
+  conf_of_holder other first holder f = f
 
   term_low : (names : Named) (x : PeerMsg) → MsgIn m names x → term_of x ≤ m
-  term_low names (AskVote term last_index last_term) x = x.0
   term_low names (Vote term granted) x = x
-  term_low names (Append term prev entries promise commit) x = x.0
-  term_low names (Accepted term end promised) x = x.0
-  term_low names (Rejected term asked hint) x = x.0
-  term_low names (Part term part) x = x.0
-  term_low names (PartTaken term point next) x = x.0
-
-  module _ (s : Replica) (h : StateIn m s) (room : length s.path + 1 ≤ m) where
-    holder_in : ConfIn s.first → (from : ℕ) → IsId from → (names : Named) (x : PeerMsg) → MsgIn m names x → CallIn m (holder_hears link s from x)
-    holder_in f from id names x fine =
-        cond_both (nat_lt (term_of x) s.term) (hears_older link s from x) (hears link (higher_term s (term_of x)) from x) (CallIn m)
-        (λ b. older_in s h f from id names x fine)
-        (λ b. cond_both (nat_lt s.term (term_of x)) (record s { term = term_of x; vote = 0; known = 0; role = followed s.role }) s (λ s'. CallIn m (hears link s' from x))
-        (λ b. hears_in (record s { term = term_of x; vote = 0; known = 0; role = followed s.role }) (with_term m s h (term_of x) 0 0 (followed s.role) (term_low names x fine) (omega arith) (followed_in s.role h.role)) f room from id names x fine)
-        (λ b. hears_in s h f room from id names x fine))
-
-    still_first : FirstIn s.role s.first → CallIn m (still s)
-    still_first f = still_so m small link hashes s h f
-
-    learner_in : (t : Taking) → s.role ≡ Learner t → (from : ℕ) → IsId from → (names : Named) (x : PeerMsg) → MsgIn m names x → FirstIn s.role s.first → CallIn m (learner_hears link s t from names x)
-    learner_in t is from id names (AskVote term last_index last_term) x f = still_first f
-    learner_in t is from id names (Vote term granted) x f = still_first f
-    learner_in t is from id names (Append term prev entries promise commit) x f = still_first f
-    learner_in t is from id names (Accepted term end promised) x f = still_first f
-    learner_in t is from id names (Rejected term asked hint) x f = still_first f
-    learner_in t is from id names (Part term part) x f = take_part_in m small link hashes s h t is from id names (max s.term term) (omega (arith, h.term, x.0)) part x.2 x.3 x.5
-    learner_in t is from id names (PartTaken term at next) x f = still_first f
-
-    peer_in : (role : Role) → s.role ≡ role → FirstIn s.role s.first → (from : ℕ) → IsId from → (y : Message) → MessageIn m y → CallIn m (peer_hears link s role from y)
-    peer_in (Learner t) is f from id y x = learner_in t is from id y.names y.msg x f
-    peer_in Follower is f from id y x = holder_in (subst (λ r. FirstIn r s.first) is f) from id y.names y.msg x
-    peer_in (Candidate votes) is f from id y x = holder_in (subst (λ r. FirstIn r s.first) is f) from id y.names y.msg x
-    peer_in (Leader l) is f from id y x = holder_in (subst (λ r. FirstIn r s.first) is f) from id y.names y.msg x
-
-    tick_in : (role : Role) → s.role ≡ role → FirstIn s.role s.first → s.term + 1 ≤ m → CallIn m (tick link s role)
-    tick_in (Learner taking) is f more = still_first f
-    tick_in Follower is f more = stand_in m small link hashes s h (subst (λ r. FirstIn r s.first) is f) room more
-    tick_in (Candidate votes) is f more = stand_in m small link hashes s h (subst (λ r. FirstIn r s.first) is f) room more
-    tick_in (Leader l) is f more = leader_tick_in m small link hashes s h (subst (λ r. FirstIn r s.first) is f) l (subst (RoleIn m) is h.role)
-
-    not_leader : FirstIn s.role s.first → (known : ℕ) → known ≤ 65535 → CallIn m (Rattle.replica_model.specs.Call.refuses s (NotLeader known))
-    not_leader f known le = refusing m small link hashes s h f (NotLeader known) (one_number known (u64_of known (omega (arith, le))))
-
-    at_leader_in : (role : Role) (change : Leading → Call) → s.role ≡ role → FirstIn s.role s.first → ((l : Leading) → LeadingIn m l → ConfIn s.first → CallIn m (change l)) → CallIn m (at_leader s role change)
-    at_leader_in (Learner taking) change is f fine = not_leader f s.known h.known
-    at_leader_in Follower change is f fine = not_leader f s.known h.known
-    at_leader_in (Candidate votes) change is f fine = not_leader f s.known h.known
-    at_leader_in (Leader l) change is f fine = fine l (subst (RoleIn m) is h.role) (subst (λ r. FirstIn r s.first) is f)
+  term_low names other x = x.0
 
   -- what a replica is told is in range
   abbrev pub InputIn : Input → Type 0
@@ -132,38 +43,88 @@ module _ (m : ℕ) (small : m ≤ MAX_EVENTS) (link : Link) (hashes : GivesHashe
   InputIn (Remove id) = IsId id
   InputIn (Margin margin) = margin ≤ 15
 
-  module _ (s : Replica) (h : StateIn m s) (f : FirstIn s.role s.first) (room : length s.path + 1 ≤ m) (more : s.term + 1 ≤ m) where
-    acts_on_in : (input : Input) → InputIn input → CallIn m (acts_on link s input)
-    acts_on_in Tick x = tick_in s h room s.role refl f more
-    acts_on_in (Peer from y) x = peer_in s h room s.role refl f from x.0 y x.1
-    acts_on_in (Client client number bytes) x = on_request_in m small link hashes s h f room client number x.0 (request_of bytes) x.1
-    acts_on_in (Join id linked) x = at_leader_in s h room s.role (λ l. join link s l id linked) refl f (λ l mine first. join_in m small link hashes s h first l mine f room id linked x)
-    acts_on_in (Admit id) x = at_leader_in s h room s.role (λ l. admit s l id) refl f (λ l mine first. admit_in m small link hashes s h first l mine f room id x)
-    acts_on_in (Remove id) x = at_leader_in s h room s.role (λ l. remove s l id) refl f (λ l mine first. remove_in m small link hashes s h first l mine f room id x)
-    acts_on_in (Margin margin) x = at_leader_in s h room s.role (λ l. set_margin s l margin) refl f (λ l mine first. margin_in m small link hashes s h first l mine f room margin x)
+  -- a state that has room for one entry more
+  record Roomy (s : Replica) : Type 0 where
+    state : StateIn m s
+    first : FirstIn s.role s.first
+    room : length s.path + 1 ≤ m
 
-    acts_halted_in : (input : Input) → InputIn input → CallIn m (acts_halted s input)
-    acts_halted_in Tick x = still_first s h room f
-    acts_halted_in (Peer from y) x = still_first s h room f
-    acts_halted_in (Client client number bytes) x = on_request_in m small link hashes s h f room client number x.0 (request_of bytes) x.1
-    acts_halted_in (Join id linked) x = not_leader s h room f 0 (omega arith)
-    acts_halted_in (Admit id) x = not_leader s h room f 0 (omega arith)
-    acts_halted_in (Remove id) x = not_leader s h room f 0 (omega arith)
-    acts_halted_in (Margin margin) x = not_leader s h room f 0 (omega arith)
+  abbrev Told : Replica → Input → Type 0
+  Told s Tick = s.term + 1 ≤ m
+  Told s input = InputIn input
 
-    acts_in : (halted : Option (ℕ × Hash × Hash)) (input : Input) → InputIn input → CallIn m (acts link s halted input)
-    acts_in (Some d) input x = acts_halted_in input x
-    acts_in None input x = acts_on_in input x
+  abbrev Heard : ℕ → Named → PeerMsg → Type 0
+  Heard from names msg = IsId from × MsgIn m names msg
 
-    pub step_in : (input : Input) → InputIn input → CallIn m (step link s input)
-    step_in input x =
-        let c : Call = acts link s s.halted input in
-        let e = ended_in m link hashes c c.state.halted (acts_in s.halted input x) in
-        let b = e.batch in
-        record {
-          state = e.state;
-          first = e.first;
-          sent = e.sent;
-          batch = record { lead = b.lead; members = b.members; halt = b.halt; taken = b.taken; commits = b.commits; answers = b.answers; saved = b.saved; refused = b.refused };
-          appends = e.appends;
-        }
+  abbrev In : Call → Type 0
+  In c = CallIn m c
+
+  module _ (s : Replica) (g : Roomy s) where
+    same : In (still s)
+    same = still_so m small link hashes s g.state g.first
+
+    says_in : (to : ℕ) (msg : PeerMsg) → IsId to → MessageIn m (plain msg) → In (says s to msg)
+    says_in to msg id x = saying m small link hashes s g.state g.first to msg id x
+
+    conf : IsHolder s.role → ConfIn s.first
+    conf holder = conf_of_holder s.role s.first holder g.first
+
+    risen_in : (term : ℕ) → IsHolder s.role → term ≤ m → Roomy (risen s term)
+    risen_in term holder le = record {
+      state = with_term m s g.state term 0 0 (followed s.role) le (omega arith) (followed_is (RoleIn m) s.role holder tt);
+      first = first_any (followed s.role) s.first (conf holder);
+      room = g.room;
+    }
+
+    module _ (l : Leading) (is : s.role ≡ Leader l) where
+      led : ConfIn s.first
+      led = subst (λ r. FirstIn r s.first) is g.first
+
+      mine : LeadingIn m l
+      mine = subst (RoleIn m) is g.state.role
+
+  rules : Rules link Roomy Told Heard (λ s. In) (λ s input. In)
+  rules = record {
+    idle = same;
+    not_leader = λ s known le g. let low = g.state.known in refusing m small link hashes s g.state g.first (NotLeader known) (one_number known (u64_of known (omega (arith, le, low))));
+    rises = λ s from names msg g holder x up. risen_in s g (term_of msg) holder (term_low names msg x.1);
+    back = λ s t c done. done;
+    message = λ s from y x. x;
+    stands = λ s g behind more. stand_in m small link hashes s g.state (conf s g (holds_behind s.role behind)) g.room more;
+    asked_vote = λ s from names term last_index last g holder at x. vote_asked_in m small link hashes s g.state (conf s g holder) g.room from last_index last x.0;
+    heard_vote = λ s votes from names term granted g is at x. vote_heard_in m small link hashes s g.state (subst (λ r. FirstIn r s.first) is g.first) g.room votes from granted;
+    heard_append = λ s names term o g holder at x. append_heard_in m small link hashes s g.state (conf s g holder) o x.0 x.1.1;
+    older_vote = λ s from names term last_index last g holder x. says_in s g from (Vote s.term false) x.0 g.state.term;
+    older_append = λ s from names term prev entries promise commit g holder x. says_in s g from (Rejected s.term prev.index s.promised) x.0 (g.state.term, omega (arith, x.1.1.ends), g.state.promised);
+    older_part = λ s from names term part g holder x. says_in s g from (Rejected s.term part.point.index s.promised) x.0 (g.state.term, x.1.1, g.state.promised);
+    heard_part = λ s from names term part g holder x. part_heard_in m small link hashes s g.state g.first from x.0 part x.1.1 x.1.3;
+    takes_part = λ s t from names term part g is x. take_part_in m small link hashes s g.state t is from x.0 names (max s.term term) (omega (arith, g.state.term, x.1.0)) part x.1.2 x.1.3 x.1.5;
+    heard_accepted = λ s l from names term end promised g is at x. accepted_in m small link hashes s g.state (led s g l is) l (mine s g l is) from x.0 (same s g) end promised x.1.1;
+    heard_rejected = λ s l from names term asked hint g is at x. rejected_in m small link hashes s g.state (led s g l is) l (mine s g l is) from x.0 (same s g) hint;
+    heard_taken = λ s l from names term point next g is x. taken_heard_in m small link hashes s g.state (led s g l is) l (mine s g l is) from x.0 (same s g) point next;
+    leader_ticks = λ s l g is x. leader_tick_in m small link hashes s g.state (led s g l is) l (mine s g l is);
+    joins = λ s l id linked g is x. join_in m small link hashes s g.state (led s g l is) l (mine s g l is) g.first g.room id linked x;
+    admits = λ s l id g is x. admit_in m small link hashes s g.state (led s g l is) l (mine s g l is) g.first g.room id x;
+    removes = λ s l id g is x. remove_in m small link hashes s g.state (led s g l is) l (mine s g l is) g.first g.room id x;
+    sets_margin = λ s l margin g is x. margin_in m small link hashes s g.state (led s g l is) l (mine s g l is) g.first g.room margin x;
+    asked = λ s client number bytes g x. on_request_in m small link hashes s g.state g.first g.room client number x.0 (request_of bytes) x.1;
+    others = λ s input c other done. done;
+    ends = λ s input c done. ended_in m link hashes c c.state.halted done;
+  }
+
+  pub step_in : (s : Replica) → StateIn m s → FirstIn s.role s.first → length s.path + 1 ≤ m → s.term + 1 ≤ m → (input : Input) → InputIn input → In (step link s input)
+  step_in s h f room more input x =
+      let told : (input : Input) → InputIn input → Told s input = by_input more in
+      let e = step_keeps link Roomy Told Heard (λ s. In) (λ s input. In) rules s (record { state = h; first = f; room = room }) input (told input x) in
+      let b = e.batch in
+      record {
+        state = e.state;
+        first = e.first;
+        sent = e.sent;
+        batch = record { lead = b.lead; members = b.members; halt = b.halt; taken = b.taken; commits = b.commits; answers = b.answers; saved = b.saved; refused = b.refused };
+        appends = e.appends;
+      }
+    where
+      by_input : s.term + 1 ≤ m → (input : Input) → InputIn input → Told s input
+      by_input more Tick x = more
+      by_input more other x = x

@@ -34,20 +34,20 @@ use Rattle.values.specs.declared.message.Reply.TheVariants as reply
 use Rattle.values.specs.declared.message.Response.{Response}
 use Rattle.values.specs.declared.message.Response.TheVariants as response
 use Rattle.values.specs.declared.message.Answer.TheVariants as answer
-use Rattle.schedule_model.specs.Client.{Flight, Core, new_core, first_request, wanted, heard, flight_request}
+use Rattle.schedule_model.specs.Client.{Flight, Core, first_request, wanted, heard, flight_request}
 use Rattle.schedule_model.specs.Client as client
 use Rattle.schedule_model.specs.Reading.{max_u32, max_u64}
 use Rattle.replica_model.specs.Path.{Link}
 use Rattle.replica_model.specs.Keyed.{value_at}
 use Rattle.replica_model.specs.Message.{Message}
 use Rattle.replica_model.specs.Replica.{Named, Replica}
-use Rattle.replica_model.specs.Call.{Call, still}
+use Rattle.replica_model.specs.Call.{still}
 use Rattle.replica_model.specs.Call as step
 use Rattle.replica_model.specs.Step.{step as step_of}
 use Rattle.group_model.specs.Enclave.{HostInput, Tick, Peer, Client, Join, Admit, Remove, Save, Roll, Connect, Margin, Enclave, Called, calls, saves_if, rolls_to, accepts, called}
 use Rattle.group_model.specs.Group.{Sent, Answered}
 use Rattle.group_model.specs.Happens as happening
-use Rattle.group_model.specs.Happens.{Came, Refused, Replied, Reported, Passed, Happening, Happened, Broken, Unanswered, happens}
+use Rattle.group_model.specs.Happens.{Came, Refused, Replied, Reported, Passed, Happening, Happened, Broken, Unanswered}
 use Rattle.group_model.specs.Run.{Enclaves, World, moves, enclaves}
 use Rattle.trace_model.specs.TraceLines.{is_byte, is_hash, is_response, is_u32, is_u64, is_client_id, refusal_numbers, group_refusal_numbers}
 use Rattle.trace_model.specs.Hashing.{GivesHashes}
@@ -276,24 +276,14 @@ reply_means f (reply.TableFull rows) h = h
 answer_means : (n : ℕ) (f : Flight) (a : Answer) → f.number ≤ max_u64 → AnswerIn n a → MeansIn f.want f.exposes (client.answer_meaning f a)
 answer_means n f (answer.Outcome index what) low h = reply_means f what h.1
 answer_means n f (answer.Undecided at kept offered) low h = low
-answer_means n f (answer.NotLeader id) low h = tt
-answer_means n f (answer.Busy waiting) low h = tt
-answer_means n f (answer.Malformed offset) low h = tt
-answer_means n f (answer.Invalid p size) low h = tt
-answer_means n f (answer.Halted index) low h = tt
+answer_means n f other low h = tt
 
 abbrev HeardIn : Core × Option Report → Type 0
 HeardIn x = CoreIn x.0 × IfSome x.1 ReportIn
 
 last_low : (core : Core) (r : Report) → CoreIn core → ReportIn r → client.last_after core r ≤ max_u64
 last_low core (report.Undecided last) fine h = omega (arith, fine.last, h)
-last_low core report.Stored fine h = fine.last
-last_low core (report.Recovered secret left) fine h = fine.last
-last_low core (report.WrongPin left) fine h = fine.last
-last_low core report.Missing fine h = fine.last
-last_low core report.Deleted fine h = fine.last
-last_low core report.ExposeError fine h = fine.last
-last_low core (report.Full rows) fine h = fine.last
+last_low core other fine h = fine.last
 
 heard_as_in : (core : Core) (f : Flight) (meaning : client.Meaning) → CoreIn core → FlightIn core.last f → MeansIn f.want f.exposes meaning → HeardIn (client.heard_as core f meaning)
 heard_as_in core f client.Nothing fine x h = (fine, tt)
@@ -336,16 +326,14 @@ world_later n m le w h = record {
 
 -- ---- one call of an enclave
 abbrev pub HostIn : ℕ → HostInput Message → Type 0
-HostIn m Tick = Unit {0}
 HostIn m (Peer from to x) = IsId from × IsId to × MessageIn m x
 HostIn m (Client c number bytes) = IsTrue (is_client_id c && is_u64 number) × RequestIn c number (request_of bytes)
 HostIn m (Join id) = IsId id
 HostIn m (Admit id) = IsId id
 HostIn m (Remove id) = IsId id
-HostIn m Save = Unit {0}
 HostIn m (Roll state) = state ≤ max_u32
-HostIn m (Connect id) = Unit {0}
 HostIn m (Margin margin) = margin ≤ 15
+HostIn m other = Unit {0}
 
 pub record CalledIn (m : ℕ) (c : Called) : Type 0 where
   pub same : c.call.state ≡ c.enclave.replica

@@ -18,13 +18,12 @@ use Rattle.group_model.specs.Enclave.{Begin, Learn, Hello, hello_id, HostInput, 
 use Rattle.group_model.specs.Enclave as group_enclave
 use Rattle.group_model.specs.Group.{Answered, Hearing, answered_by, numbered, core_of, put_core, is_client}
 use Rattle.group_model.specs.Happens as happening
-use Rattle.group_model.specs.Happens.{Happening, Happened, Broken, Unanswered, happens}
 use Rattle.group_model.specs.Run.{Enclaves, World, moves, newly, start_enclave, enclaves, run}
 use Rattle.group_model.specs.Log.{outcomes_in}
 use Rattle.group_model.specs.Reports.{Names, IsOnlySaid}
 use Rattle.log_laws.proofs.History.{with_call}
 use Rattle.log_laws.proofs.Moving.{all_numbered}
-use Rattle.event_walk.specs.Cases.{Handing, Ticked, Saved, Joins, Admits, Removes, Margins, Delivered, Asked, Said, handed, Survives}
+use Rattle.event_walk.specs.Cases.{Handing, Asked, Said, handed, Survives}
 use Rattle.event_walk.proofs.Walk as walk
 use Rattle.report_laws.proofs.Kept.{InputSaid, Listed, Follows, call_follows, wanted_follows, heard_follows, stays_follows, say_follows}
 
@@ -110,13 +109,7 @@ module _ (c : ClientId) (g : World) (k : WorldFollows c g) where
   said_handed v (Said client core number request has says) only = λ mine.
       say_follows c (core_for g.cores c) g.answers g.hearings g.field.history (k only) number request
       (subst (λ e. said (core_for g.cores e) ≡ Some (number, request)) mine (ap (λ o. said (unwrap_or o new_core)) has ∙ says))
-  said_handed v (Delivered j m is to) only = tt
-  said_handed v Ticked only = tt
-  said_handed v Saved only = tt
-  said_handed v (Joins id) only = tt
-  said_handed v (Admits id) only = tt
-  said_handed v (Removes id) only = tt
-  said_handed v (Margins margin) only = tt
+  said_handed v other only = tt
 
   -- a call of which that is said
   calls : (v : ℕ) (before : Replica) (input : Option (HostInput Message)) (call : Call) → (IsOnlySaid g c → InputSaid c (core_for g.cores c).last (core_for g.cores c).flight input) → IsOnlySaid g c → Follows c (core_for g.cores c) (g.answers ++ map (answered_by v) call.batch.answers) g.hearings (with_call g.field.history v before input call)

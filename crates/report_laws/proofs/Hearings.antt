@@ -11,7 +11,7 @@ use Rattle.values.specs.declared.message.Answer.TheVariants as answer
 use Rattle.values.specs.declared.message.Reply.{Reply}
 use Rattle.values.specs.declared.message.Reply.TheVariants.{Applied}
 use Rattle.values.specs.declared.message.Request.{Request}
-use Rattle.values.specs.declared.message.Request.TheVariants.{Backup, Restore, Delete, Expose}
+use Rattle.values.specs.declared.message.Request.TheVariants.{Backup, Restore, Expose}
 use Rattle.values.specs.declared.message.Response.TheVariants.{Backup as BackedUp, Expose as Exposed, Restore as Restored}
 use Rattle.values.specs.declared.want.Report.{Report}
 use Rattle.values.specs.declared.want.Report.TheVariants as report
@@ -41,10 +41,8 @@ nothing r e = cc
 
 -- the pin of a restore
 abbrev pin_in : Request → Hash → Hash
-pin_in (Backup secret pin tries) other = other
 pin_in (Restore pin) other = pin
-pin_in Delete other = other
-pin_in (Expose secret) other = other
+pin_in rest other = other
 
 module _ (again : ReadAgain) (rows : RowLaws) (w : World) (laws : OneLogLaws w) (c : ClientId) where
   -- a hearing of the client, of an answer to what it had in flight
@@ -116,11 +114,7 @@ module _ (again : ReadAgain) (rows : RowLaws) (w : World) (laws : OneLogLaws w) 
     meant : (a : Answer) → h.answered.answer ≡ a → ListedAs (CallsSaid c last (Some f)) (outcomes_of w) c f.number a → (r : Report) → answer_meaning f a ≡ Reports r → ReportHolds w c hs h f r
     meant (answer.Outcome index reply) is given r means = reported index reply is (place_of index reply given) r means (reply_means f reply (Reports r) means)
     meant (answer.Undecided at kept offered) is given r means = subst (ReportHolds w c hs h f) (same_report (report.Undecided f.number) r means) tt
-    meant (answer.NotLeader id) is given r means = absurd (nothing r means)
-    meant (answer.Busy waiting) is given r means = absurd (nothing r means)
-    meant (answer.Malformed offset) is given r means = absurd (nothing r means)
-    meant (answer.Invalid part length) is given r means = absurd (nothing r means)
-    meant (answer.Halted index) is given r means = absurd (nothing r means)
+    meant other is given r means = absurd (nothing r means)
 
   -- each hearing of the client
   module _ (hs : List Hearing) (h : Hearing) (mine : h.client ≡ c) (k : HeardKept c (outcomes_of w) hs h) where

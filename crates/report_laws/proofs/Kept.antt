@@ -1,4 +1,5 @@
 -- What a run keeps of one client: what was handed for it was said, and what it heard was answered.
+use Rattle.log_laws.proofs.History.{any_left, any_right, all_more, with_call}
 use Rattle.std.proofs.Common.{◌≡◌, ℕ, ◌+◌, ◌-◌, ◌≤◌, ◌==◌, inl, inr, Bool, true, false, Option, Some, None, Result, Ok, Err, List, [], ◌∷◌, ◌++◌, refl, sym, ap, subst, ◌∙◌, arith}
 use Rattle.std.specs.Prelude.{option_map, filter_map, map, max, nat_lt, if◌then◌else◌}
 use Rattle.std.specs.List.{AllByRecursion, cons_option}
@@ -28,7 +29,6 @@ use Rattle.group_model.specs.Group.{Answered, Hearing, answered_by}
 use Rattle.group_model.specs.Run.{Recorded}
 use Rattle.group_model.specs.Log.{AnyByRecursion, Outcome, ticket_request, outcome_in, outcomes_in}
 use Rattle.group_model.specs.Reports.{Heard}
-use Rattle.log_laws.proofs.History.{all_more, with_call}
 use Rattle.log_laws.proofs.Ending.{all-append}
 use Rattle.report_laws.proofs.Meanings.{Done, goes_on_done}
 
@@ -105,16 +105,6 @@ pub record Follows (c : ClientId) (core : Core) (answers : List Answered) (heari
   pub began : FlightBegan c (outcomes_in history) hearings core.flight
 
 -- ---- lists of outcomes
-module _ {A : Type 0} (P : A → Type 0) where
-  any_left : (xs ys : List A) → AnyByRecursion P xs → AnyByRecursion P (xs ++ ys)
-  any_left [] ys h = absurd h
-  any_left (x ∷ xs) ys (inl h) = inl h
-  any_left (x ∷ xs) ys (inr h) = inr (any_left xs ys h)
-
-  any_right : (xs ys : List A) → AnyByRecursion P ys → AnyByRecursion P (xs ++ ys)
-  any_right [] ys h = h
-  any_right (x ∷ xs) ys h = inr (any_right xs ys h)
-
 any_with : {A : Type 0} (P Q R : A → Type 0) → ((x : A) → P x → Q x → R x) → (xs : List A) → AnyByRecursion P xs → AllByRecursion Q xs → AnyByRecursion R xs
 any_with P Q R both [] h k = absurd h
 any_with P Q R both (x ∷ xs) (inl h) k = inl (both x h k.0)

@@ -75,8 +75,4 @@ pub goes_on_done : (f : Flight) (a : Answer) → answer_meaning f a ≡ GoesOn �
 goes_on_done f (answer.Outcome index reply) is =
     let so = reply_means f reply GoesOn is in record { index = index; answer_is = ap (answer.Outcome index) so.0; first = so.1 }
 goes_on_done f (answer.Undecided at kept offered) is = absurd (not_reported (report.Undecided f.number) is)
-goes_on_done f (answer.NotLeader id) is = absurd (not_going is)
-goes_on_done f (answer.Busy waiting) is = absurd (not_going is)
-goes_on_done f (answer.Malformed offset) is = absurd (not_going is)
-goes_on_done f (answer.Invalid part length) is = absurd (not_going is)
-goes_on_done f (answer.Halted index) is = absurd (not_going is)
+goes_on_done f other is = absurd (not_going is)
