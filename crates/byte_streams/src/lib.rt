@@ -9,4 +9,4 @@ mod tests;
 
 pub use in_memory::{MemSink, MemSource};
 pub use std_streams::{StdSink, StdSource};
-pub use streams::{Failed, Sink, Source, write_all};
+pub use streams::{Failed, PIECE, Sink, Source, write_all};

@@ -5,6 +5,9 @@ ghost use Rattle.std.specs.Io.KnownBytes.{ReadConsumes, WriteAppends, Appends};
 ghost use Rattle.byte_streams.specs.Causes.{HasCause};
 ghost use Rattle.byte_streams.specs.Streams.{AppendsPrefix, MovesSome};
 
+/// The most bytes of one read by which a source is read to its end.
+pub const PIECE: usize = 65_536;
+
 /// A read or a write failed, and the count of faults rose.
 #[derive(Clone, Copy, Debug, PartialEq, Eq)]
 pub struct Failed;

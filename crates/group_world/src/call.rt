@@ -14,6 +14,9 @@ use host_msgs::{BatchFault, FrameList, read_batch};
 use std::alloc::Global;
 use values::{Batch, Bytes, Memory, ReplicaId};
 
+/// Most batches have room in so many bytes.
+const ROOM: usize = 512;
+
 /// The content that says an input in which nothing is wrong.
 pub(crate) fn content_of(alloc: Global, input: &HostIn<'_>) -> Result<Bytes, Memory>
     requires fits { FitsInput (input_of input.now) }
@@ -36,7 +39,9 @@ pub(crate) fn call<F: Field>(
     ensures calls { Calls (F.map field.old) (F.map field.new) (F.answers field.old) (F.answers field.new) id input.now result }
     ensures cause { HasCauseAt Unplayed.FieldFault (F.faults field.old) (F.faults field.new) result }
 {
-    let mut out = Vec::new(alloc);
+    let Ok(mut out) = Vec::with_capacity(alloc, ROOM) else {
+        return Err(Unplayed::Memory);
+    };
     match field.call(id, input, &mut out) {
         Ok(()) => {}
         Err(FieldFault::Memory) => return Err(Unplayed::Memory),

@@ -11,14 +11,26 @@ use fixed_fields::Writer;
 use std::alloc::{AllocError, Global};
 use values::{Bytes, Memory};
 
+/// Room for a kind and the fields in front of a frame or a request.
+const ROOM: usize = 32;
+
 /// The content that says an input, its ids in rising order. At most 255 ids may be listed.
 pub fn write_host(alloc: Global, input: &HostIn<'_>) -> Result<Bytes, Memory>
     requires { length (listed_in (input_of input.now)) < 256 }
     ensures { IfOk result (λ bytes. bytes ≡ input_bytes (input_of input.now)) }
 {
-    let mut out = Writer::behind(Vec::new(alloc));
+    let mut out = Writer::behind(Vec::with_capacity(alloc, room_for(input))?);
     push_input(&mut out, input)?;
     Ok(Bytes::from(out.finish()))
+}
+
+/// Room for the content of an input that lists no ids, and at least for a short one's.
+fn room_for(input: &HostIn<'_>) -> usize {
+    match input {
+        HostIn::Peer { frame } => frame.len() + ROOM,
+        HostIn::Client { request, .. } => request.len() + ROOM,
+        _ => ROOM,
+    }
 }
 
 fn push_input(out: &mut Writer, input: &HostIn<'_>) -> Result<(), AllocError>

@@ -9,11 +9,9 @@ ghost use Rattle.record_stream.specs.Steps as spec;
 
 use crate::lines::{play_alone, take_piece};
 use crate::player::{Player, Stop};
+use byte_streams::PIECE;
 use std::alloc::Global;
 use svr_base::{MAX_SOURCE, Sink, Source, write_all};
-
-/// The most bytes of one read.
-const PIECE: usize = 65_536;
 
 /// How the playing of a source ended.
 #[derive(Clone, Copy, Debug, PartialEq, Eq)]

@@ -22,6 +22,7 @@ use schedule_text::{
 };
 use std::alloc::Global;
 use std::marker::Model;
+use std::mem;
 use svr_base::{MAX_EVENTS, Memory};
 
 /// One record table, and how many records were applied to it. Contracts see both.
@@ -32,6 +33,8 @@ pub struct TablePlayer {
     records: u64,
     /// Where each line stands in turn.
     line: Vec<u8>,
+    /// Where the bytes of each request stand in turn.
+    room: Vec<u8>,
 }
 
 impl Model for TablePlayer {
@@ -90,7 +93,24 @@ impl TablePlayer {
             table: Table::new(alloc, limit),
             records: 0,
             line: Vec::new(alloc),
+            room: Vec::new(alloc),
         }
+    }
+
+    /// What a record asks, in the room of the request before it.
+    fn read(&mut self, fields: &[&[u8]]) -> Result<TableRecord, Unread>
+        ensures read { Reads result (table_record (record_of fields.now)) }
+        ensures same { self.new ≡ self.old }
+    {
+        let room = mem::replace(&mut self.room, Vec::new(self.alloc));
+        read_record(room, fields)
+    }
+
+    /// Leaves the room of a request to the next one.
+    fn leave(&mut self, ask: TableRecord)
+        ensures { self.new ≡ self.old }
+    {
+        self.room = ask.request.into_vec();
     }
 
     /// Plays a request, and appends its line.
@@ -176,7 +196,7 @@ impl Player for TablePlayer {
     ghost count = { λ p. p.records };
 
     fn play(&mut self, fields: &[&[u8]], lines: &mut Vec<u8>) -> Result<(), Stop<Stopped>> {
-        let ask = match read_record(self.alloc, fields) {
+        let ask = match self.read(fields) {
             Ok(ask) => ask,
             Err(Unread::Memory) => return Err(Stop::Memory),
             Err(Unread::Fault(fault)) => {
@@ -189,6 +209,7 @@ impl Player for TablePlayer {
             return Err(Stop::Stopped(Stopped::AtLimit));
         }
         self.ask(&ask, lines)?;
+        self.leave(ask);
         Ok(())
     }
 

@@ -4,7 +4,6 @@ ghost use Rattle.schedule_text.specs.Read.{Reads};
 ghost use Rattle.table_model.specs.TableText.{table_record};
 
 use schedule_text::{RecordFault, Unread, client_of, hex_of, number_of};
-use std::alloc::Global;
 use std::marker::Model;
 use svr_base::{Bytes, Cause, ClientId};
 
@@ -24,8 +23,9 @@ impl Model for TableRecord {
     ghost view = { λ r. record { client = r.client; number = r.number; request = r.request } };
 }
 
-/// What a record asks: it has three fields, a client, a number and the hexadecimal of a request's bytes.
-pub fn read_record(alloc: Global, fields: &[&[u8]]) -> Result<TableRecord, Unread>
+/// What a record asks: it has three fields, a client, a number and the hexadecimal of a request's bytes. These stand in
+/// `room`, whose bytes before do not count.
+pub fn read_record(room: Vec<u8>, fields: &[&[u8]]) -> Result<TableRecord, Unread>
     ensures { Reads result (table_record (record_of fields.now)) }
 {
     let [client, number, hex] = fields else {
@@ -33,7 +33,7 @@ pub fn read_record(alloc: Global, fields: &[&[u8]]) -> Result<TableRecord, Unrea
     };
     let client = client_of(client, 1)?;
     let number = number_of(number, 2, 0, u64::MAX)?;
-    let request = hex_of(Vec::new(alloc), hex, 3)?;
+    let request = hex_of(room, hex, 3)?;
     Ok(TableRecord {
         client,
         number,

@@ -11,7 +11,8 @@ use Rattle.trace_audit.specs.declared.audit.Why.{Why}
 use Rattle.trace_audit.specs.declared.source.Audited.{Audited}
 use Rattle.trace_audit.specs.declared.source.Audited.TheVariants as audited
 use Rattle.trace_audit.specs.declared.source.Front.{Front}
-use Rattle.trace_audit.specs.declared.source.TheConstants.{MAX_TRACE, PIECE}
+use Rattle.byte_streams.specs.declared.streams.TheConstants.{PIECE}
+use Rattle.trace_audit.specs.declared.source.TheConstants.{MAX_TRACE}
 use Rattle.trace_audit.specs.Ends.{EndsAfter, ReadOn}
 use Rattle.trace_audit.specs.Fronts.{IsRefused, IsTaken}
 use Rattle.trace_audit.specs.Stands.{why_of}

@@ -6,7 +6,8 @@ use Rattle.trace_audit.specs.Fronts.{IsRefused, IsTaken, IsVerdict}
 use Rattle.trace_audit.specs.Stands.{why_of}
 use Rattle.trace_audit.specs.declared.source.Audited.{Audited}
 use Rattle.trace_audit.specs.declared.source.Audited.TheVariants as audited
-use Rattle.trace_audit.specs.declared.source.TheConstants.{MAX_TRACE, PIECE}
+use Rattle.byte_streams.specs.declared.streams.TheConstants.{PIECE}
+use Rattle.trace_audit.specs.declared.source.TheConstants.{MAX_TRACE}
 
 -- The last read gave at most a piece. Nothing in what was read before it is refused, nor is it too long for a trace.
 pub record ReadOn (taken : List ℕ) : Type 0 where

@@ -9,18 +9,13 @@ ghost use Rattle.trace_audit.specs.Taking.{Finishes, IsFront, IsTold, IsWithinLi
 
 use crate::audit::{Audit, AuditError, Why};
 use crate::told::tell;
-use byte_streams::Source;
+use byte_streams::{PIECE, Source};
 use memchr::memchr;
 use std::alloc::Global;
-
-/// The most bytes of one read.
-const PIECE: usize = 65_536;
+use trace_lines::MAX_LINE;
 
 /// The most bytes of a trace that are read.
 pub const MAX_TRACE: usize = 1_099_511_627_776;
-
-/// The most bytes of a line, without its line feed.
-const MAX_LINE: usize = 68_000_000;
 
 /// How the audit of a source ended.
 #[derive(Clone, Copy, Debug, PartialEq, Eq)]

@@ -14,4 +14,4 @@ mod tests;
 mod word;
 
 pub use line::{LineError, TraceLine};
-pub use read::read_line;
+pub use read::{MAX_LINE, read_line};

@@ -18,8 +18,8 @@ use memchr::memchr;
 use std::alloc::{AllocError, Global};
 use trace_model::fields_are_plain;
 
-/// The most bytes of a line.
-const MAX_LINE: usize = 68_000_000;
+/// The most bytes of a line, without its line feed.
+pub const MAX_LINE: usize = 68_000_000;
 
 /// How many fields a line has mostly, at the most: a longer one takes memory twice.
 const FIELDS: usize = 16;
