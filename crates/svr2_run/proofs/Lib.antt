@@ -2,7 +2,9 @@ pub mod Unbroken
 pub mod Replays
 mod Groups
 mod Drilling
+mod Ended
 pub mod Tables
+mod Drives
 pub mod Unread
 pub mod Parses
 pub mod Edging

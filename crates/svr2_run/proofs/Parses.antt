@@ -73,10 +73,10 @@ differs xs ys ne = elim (cases_Bool (bytes_eq xs ys)) [ inl y ↦ absurd (ne ((b
 
 -- the word is the name of no command
 abbrev pub IsNoName : List ℕ → Type 0
-IsNoName name = (name ≡ codes "replay" → ⊥) × (name ≡ codes "table" → ⊥) × (name ≡ codes "serve" → ⊥) × (name ≡ codes "tagged" → ⊥) × (name ≡ codes "audit" → ⊥) × (name ≡ codes "group" → ⊥) × (name ≡ codes "drill" → ⊥)
+IsNoName name = (name ≡ codes "replay" → ⊥) × (name ≡ codes "drive" → ⊥) × (name ≡ codes "table" → ⊥) × (name ≡ codes "serve" → ⊥) × (name ≡ codes "tagged" → ⊥) × (name ≡ codes "audit" → ⊥) × (name ≡ codes "group" → ⊥) × (name ≡ codes "drill" → ⊥)
 
 no_name : (name : List ℕ) (rest : List (List ℕ)) → IsNoName name → None ≡ command_of (name ∷ rest)
-no_name name rest (a, b, s, t, d, g, l) = rw (differs name (codes "replay") a, differs name (codes "table") b, differs name (codes "serve") s, differs name (codes "tagged") t, differs name (codes "audit") d, differs name (codes "group") g, differs name (codes "drill") l) refl
+no_name name rest (a, v, b, s, t, d, g, l) = rw (differs name (codes "replay") a, differs name (codes "drive") v, differs name (codes "table") b, differs name (codes "serve") s, differs name (codes "tagged") t, differs name (codes "audit") d, differs name (codes "group") g, differs name (codes "drill") l) refl
 
 pub no_command : {X : Type 0} (bytes : X → List ℕ) (words : List X) (x : X) → slice_get words 0 ≡ Some x → IsNoName (bytes x) → None ≡ command_of (map bytes words)
 no_command bytes [] x is none = cc

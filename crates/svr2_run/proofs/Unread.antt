@@ -10,11 +10,12 @@ use Rattle.svr2_run.specs.declared.words.Command.{Command}
 use Rattle.svr2_run.specs.declared.words.Command.TheVariants as command
 use Rattle.svr2_run.specs.declared.exit.Status.TheVariants as status
 use Rattle.svr2_run.specs.declared.words.Play.{Play}
-use Rattle.svr2_run.specs.declared.words.Play.TheVariants.{Replay, Table}
+use Rattle.svr2_run.specs.declared.words.Play.TheVariants.{Drive, Replay, Table}
 
 no_lines : (play : Play) → lines_of play [] ≡ []
 unfolding whole_lines all_written
 no_lines Replay = refl
+no_lines Drive = refl
 no_lines (Table rows) = refl
 
 cut_before : (play : Play) (all : List ℕ) (x : Option (List ℕ)) → CutOff play all (Some all) x x
@@ -40,6 +41,7 @@ unread_run (Some play) (Some all) x = cut_before play all x
 pub memory_is_no_frame : (play : Option Play) → IfSome play (λ play. IsNoFrame play status.Memory)
 memory_is_no_frame None = tt
 memory_is_no_frame (Some Replay) = tt
+memory_is_no_frame (Some Drive) = tt
 memory_is_no_frame (Some (Table rows)) = λ e. cc e
 
 -- the words play this

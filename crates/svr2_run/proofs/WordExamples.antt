@@ -4,7 +4,7 @@ use Rattle.clap.proofs.OnLiterals.{clap_on_literals}
 use Rattle.svr2_run.specs.Words.{command_of}
 use Rattle.svr2_run.specs.declared.words.Command.{Command}
 use Rattle.svr2_run.specs.declared.words.Command.TheVariants.{Play}
-use Rattle.svr2_run.specs.declared.words.Play.TheVariants.{Replay, Table}
+use Rattle.svr2_run.specs.declared.words.Play.TheVariants.{Drive, Replay, Table}
 
 -- the command of `table` with these words behind it
 abbrev table : List (List ℕ) → Option Command
@@ -77,6 +77,14 @@ replays_with_end = refl
 replay_has_no_options : command_of (codes "replay" ∷ codes "--rows" ∷ codes "1" ∷ []) ≡ None
 unfolding clap_on_literals
 replay_has_no_options = refl
+
+drives : command_of (codes "drive" ∷ []) ≡ Some (Play Drive)
+unfolding clap_on_literals
+drives = refl
+
+drive_has_no_options : command_of (codes "drive" ∷ codes "--turns" ∷ codes "1" ∷ []) ≡ None
+unfolding clap_on_literals
+drive_has_no_options = refl
 
 another_case : command_of (codes "Replay" ∷ []) ≡ None
 unfolding clap_on_literals

@@ -5,15 +5,20 @@ use Rattle.record_cutting.specs.Lines.{Record, records_of, whole_records}
 use Rattle.record_stream.specs.Ends.{IsFrontOf, limit, piece_size}
 use Rattle.record_stream.specs.declared.source.Ended.{Ended}
 use Rattle.record_stream.specs.declared.source.Ended.TheVariants as ended
-use Rattle.schedule_model.specs.Written.{Stop, AtRecord, AtLimit, AtFrame, AtField, stopped_text, stop_of}
+use Rattle.schedule_model.specs.Written.{Stop, AtRecord, AtLimit, AtFrame, AtField, Written, all_written, no_closing, stopped_text, stop_of, text_with}
 use Rattle.schedule_text.specs.declared.fault.Stopped.{Stopped}
 use Rattle.schedule_text.specs.declared.fault.Stopped.TheVariants as stopped
 use Rattle.replica_model.specs.Linked.{sha_link}
 use Rattle.group_model.specs.Log.{NoCollision}
-use Rattle.group_model.specs.Run.{World, enclaves, empty_world}
+use Rattle.replica_model.specs.Message.{Message}
+use Rattle.group_model.specs.Run.{Enclaves, World, enclaves, empty_world}
+use Rattle.trace_model.specs.Driven.{Driving, driven_record, driven_trace}
+use Rattle.trace_model.specs.Driver.{new_driver}
 use Rattle.trace_model.specs.Trace.{playing, records_played}
 use Rattle.trace_model.specs.Schedules.{trace_of, whole_text_of, stop_in}
-use Rattle.part_laws.specs.Named.{played_from, with_enclaves}
+use Rattle.part_laws.specs.Named.{driven_from, played_from, with_enclaves}
+use Rattle.group_world.specs.declared.halt.Halt.{Halt}
+use Rattle.group_world.specs.declared.halt.Halt.TheVariants as halt
 use Rattle.group_world.specs.declared.schedule.Played.{Played}
 use Rattle.group_world.specs.declared.schedule.Played.TheVariants as played
 use Rattle.table_model.specs.TableText.{table_text}
@@ -21,26 +26,37 @@ use Rattle.table_command.specs.Text.{stop_of_table, table_lines, stop_of_whole}
 use Rattle.svr2_run.specs.declared.exit.Status.{Status}
 use Rattle.svr2_run.specs.declared.exit.Status.TheVariants as status
 use Rattle.svr2_run.specs.declared.words.Play.{Play}
-use Rattle.svr2_run.specs.declared.words.Play.TheVariants.{Replay, Table}
+use Rattle.svr2_run.specs.declared.words.Play.TheVariants.{Drive, Replay, Table}
 
 -- the world after these records, with the calls of an event that ended their text
 abbrev pub tried_by : List Record → World
 tried_by records = with_enclaves (played_from sha_link records).group (played_from sha_link records).stands
 
+-- the same where each accepted want is carried to its report
+abbrev pub tried_by_driven : List Record → World
+tried_by_driven records = with_enclaves (driven_from sha_link records).playing.group (driven_from sha_link records).playing.stands
+
+-- what these records write where clients are driven
+abbrev pub driven_by : List Record → Written (Driving Message Enclaves)
+driven_by records = all_written (driven_record (enclaves sha_link)) (record { playing = playing empty_world; driver = new_driver 0 }) records
+
 -- What is said of records that a group plays is said where the chain's link does not collide in their run. One table hashes
 -- nothing.
 abbrev pub Holds : Play → List Record → Type 0
 Holds Replay records = NoCollision sha_link (tried_by records)
+Holds Drive records = NoCollision sha_link (tried_by_driven records)
 Holds (Table rows) records = Unit {0}
 
 -- the whole text of a play over the bytes of a source
 abbrev pub text_of : Play → List ℕ → List ℕ
 text_of Replay bytes = trace_of sha_link bytes
+text_of Drive bytes = driven_trace sha_link bytes
 text_of (Table rows) bytes = table_text rows bytes
 
 -- the lines of the records that stand whole in bytes, without those at the end
 abbrev pub lines_of : Play → List ℕ → List ℕ
 lines_of Replay bytes = whole_text_of sha_link bytes
+lines_of Drive bytes = text_with no_closing (driven_by (whole_records bytes))
 lines_of (Table rows) bytes = table_lines rows bytes
 
 -- the status where nothing but the records decides: 3 where a record ends the text, 7 where a limit does
@@ -69,10 +85,12 @@ whole_stop_in bytes = stop_of (records_played (enclaves sha_link) (playing empty
 -- of all records of bytes, and of those that stand whole in them
 abbrev pub status_in : Play → List ℕ → Status
 status_in Replay bytes = status_by (stop_in sha_link bytes)
+status_in Drive bytes = status_by (stop_of (driven_by (records_of bytes)))
 status_in (Table rows) bytes = table_status_by (stop_of_table rows bytes)
 
 abbrev pub whole_status_in : Play → List ℕ → Status
 whole_status_in Replay bytes = status_by (whole_stop_in bytes)
+whole_status_in Drive bytes = status_by (stop_of (driven_by (whole_records bytes)))
 whole_status_in (Table rows) bytes = table_status_by (stop_of_whole rows bytes)
 
 -- the last line of a text says why it ends there
@@ -127,18 +145,32 @@ RunsOver play all left old new status.Refused = ⊥
 -- the run of one table never ends at a frame
 abbrev pub IsNoFrame : Play → Status → Type 0
 IsNoFrame Replay result = Unit {0}
+IsNoFrame Drive result = Unit {0}
 IsNoFrame (Table rows) result = result ≢ status.Frame
 
--- ---- the ends of the two players, as the status of a run
+-- ---- the ends of the players, as the status of a run
+
+-- by what the reason for a stop means
+abbrev pub status_ended : {R : Type 0} → (R → Status) → Ended R → Status
+status_ended stopped ended.Done = status.Done
+status_ended stopped (ended.Stopped why) = stopped why
+status_ended stopped ended.Memory = status.Memory
+status_ended stopped ended.ReadFault = status.ReadFault
+status_ended stopped ended.WriteFault = status.WriteFault
+status_ended stopped ended.Limit = status.Limit
+status_ended stopped ended.Failed = status.FieldFault
 
 abbrev pub status_of : Ended Stopped → Status
-status_of ended.Done = status.Done
-status_of (ended.Stopped why) = table_status_for why
-status_of ended.Memory = status.Memory
-status_of ended.ReadFault = status.ReadFault
-status_of ended.WriteFault = status.WriteFault
-status_of ended.Limit = status.Limit
-status_of ended.Failed = status.FieldFault
+status_of e = status_ended table_status_for e
+
+-- why a driven schedule is not played to its end
+abbrev pub status_halted : Halt → Status
+status_halted (halt.Record number cause field) = status.Schedule
+status_halted (halt.Limit which) = status.Limit
+status_halted (halt.Frame at) = status.Frame
+
+abbrev pub status_driven : Ended Halt → Status
+status_driven e = status_ended status_halted e
 
 abbrev pub status_played : Played → Status
 status_played played.Done = status.Done

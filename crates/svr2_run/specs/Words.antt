@@ -11,7 +11,7 @@ use Rattle.drill_laws.specs.Laws.{most_clients}
 use Rattle.svr2_run.specs.declared.words.Command.{Command}
 use Rattle.svr2_run.specs.declared.words.Command.TheVariants.{Audit, Drill, Group, Play, Serve, Tagged}
 use Rattle.svr2_run.specs.declared.words.Play as what
-use Rattle.svr2_run.specs.declared.words.Play.TheVariants.{Replay, Table}
+use Rattle.svr2_run.specs.declared.words.Play.TheVariants.{Drive, Replay, Table}
 use Rattle.svr2_run.specs.declared.words.Streams.{Streams}
 use Rattle.svr2_run.specs.declared.words.Streams.TheVariants.{Standard, Connected}
 
@@ -34,6 +34,9 @@ plain_of name command words = option_map (λ rows. command) (matched (new_app na
 
 abbrev pub replay_of : List (List ℕ) → Option Command
 replay_of words = plain_of (codes "replay") (Play Replay) words
+
+abbrev pub drive_of : List (List ℕ) → Option Command
+drive_of words = plain_of (codes "drive") (Play Drive) words
 
 -- `table`, with the option `rows`
 abbrev pub table_app : App
@@ -134,6 +137,7 @@ abbrev pub command_of : List (List ℕ) → Option Command
 command_of [] = None
 command_of (name ∷ words) =
     if bytes_eq name (codes "replay") then replay_of (name ∷ words)
+    else if bytes_eq name (codes "drive") then drive_of (name ∷ words)
     else if bytes_eq name (codes "table") then table_of (name ∷ words)
     else if bytes_eq name (codes "serve") then serve_of (name ∷ words)
     else if bytes_eq name (codes "tagged") then tagged_of (name ∷ words)
@@ -171,6 +175,7 @@ tagging_of words = tagging_in (command_of words)
 -- the limit of a table is one that it can have
 abbrev pub HasLimit : what.Play → Type 0
 HasLimit Replay = ⊤
+HasLimit Drive = ⊤
 HasLimit (Table limit) = (1 ≤ limit) × (limit ≤ MOST_ROWS)
 
 abbrev pub HasLimits : Command → Type 0

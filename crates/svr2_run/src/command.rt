@@ -10,12 +10,13 @@ ghost use Rattle.replica_model.specs.Linked.{sha_link};
 ghost use Rattle.replica_model.specs.Replica.{Named};
 ghost use Rattle.group_model.specs.Group.{is_within};
 ghost use Rattle.group_model.specs.Halts.{HaltLaws};
-ghost use Rattle.group_model.specs.Laws.{OneLogLaws};
+ghost use Rattle.group_model.specs.Laws.{ActsOnce, OneLogLaws};
 ghost use Rattle.group_model.specs.Log.{NoCollision, WithinBound, log_of};
 ghost use Rattle.group_model.specs.Reports.{IsOnlySaid, ReportsHold};
 ghost use Rattle.trace_audit.specs.declared.source.TheConstants.{MAX_TRACE};
 ghost use Rattle.trace_model.specs.Audit.{Accepts, Audits};
 ghost use Rattle.trace_model.specs.Claims.{drill_world};
+ghost use Rattle.trace_model.specs.Driven.{driven_world};
 ghost use Rattle.trace_model.specs.Schedules.{trace_of, world_of};
 ghost use Rattle.trace_model.specs.Session.{IsMapFor};
 ghost use Rattle.trace_model.specs.Summary.{halts};
@@ -32,7 +33,7 @@ use crate::audit::audit;
 use crate::drill::drill;
 use crate::exit::Status;
 use crate::group::group;
-use crate::plays::{replay, table};
+use crate::plays::{drive, replay, table};
 use crate::sessions::{serve, tagged};
 use crate::words::{Command, Play, read_words};
 use audit_laws::traces_are_accepted;
@@ -43,10 +44,10 @@ use std::alloc::Global;
 use svr_base::{Memory, Sink, Source};
 
 /// Does what the words say: `replay` plays a schedule from the source, by a group in memory, and writes its trace to the
-/// sink, and `group` does so by a group whose replicas run in the field; `table` applies the requests of the source's records
-/// to one record table and writes what comes of each; `serve` serves one enclave over the frames of the source, and `tagged`
-/// does so over frames that are tagged; `audit` audits the trace that the source holds and writes the verdict; `drill` plays
-/// the schedule of a seed and writes what it came to.
+/// sink; `drive` does so too, and carries each accepted want to its report; `group` plays it by a group whose replicas run in
+/// the field; `table` applies the requests of the source's records to one record table and writes what comes of each; `serve`
+/// serves one enclave over the frames of the source, and `tagged` does so over frames that are tagged; `audit` audits the trace
+/// that the source holds and writes the verdict; `drill` plays the schedule of a seed and writes what it came to.
 ///
 /// The words are the command line without the program's own name. The field comes back with the status. Want of memory is the
 /// one free answer.
@@ -95,6 +96,19 @@ pub fn run<S: Source, K: Sink, F: Field>(
     // Where no roll was accepted, nobody halts, and no line of the trace tells of a halt.
     ensures no_halt { (bytes : List ℕ) → (world_of sha_link bytes).rolled ≡ [] → NoCollision sha_link (world_of sha_link bytes)
         → HaltLaws (world_of sha_link bytes) × (halts (world_of sha_link bytes) ≡ 0) × IsWithoutHalt (trace_of sha_link bytes) }
+
+    // The same of every driven schedule, in which each number of a client acts at most once, once the client is known.
+    ensures driven_one_log { (bytes : List ℕ) → WithinBound (driven_world sha_link bytes) → NoCollision sha_link (driven_world sha_link bytes)
+        → OneLogLaws (driven_world sha_link bytes) }
+    ensures acts_once { (bytes : List ℕ) → WithinBound (driven_world sha_link bytes) → NoCollision sha_link (driven_world sha_link bytes)
+        → ActsOnce (driven_world sha_link bytes) }
+    ensures driven_printed { (bytes : List ℕ) → IsTrue (is_within (driven_world sha_link bytes)) → NoCollision sha_link (driven_world sha_link bytes)
+        → OneLogLaws (driven_world sha_link bytes) × ((driven_world sha_link bytes).committed ≡ length (log_of (driven_world sha_link bytes))) }
+    ensures driven_reports { (bytes : List ℕ) → WithinBound (driven_world sha_link bytes) → NoCollision sha_link (driven_world sha_link bytes)
+        → (client : ClientId) → IsOnlySaid (driven_world sha_link bytes) client
+        → ReportsHold (driven_world sha_link bytes) client (driven_world sha_link bytes).hearings }
+    ensures driven_no_halt { (bytes : List ℕ) → (driven_world sha_link bytes).rolled ≡ [] → NoCollision sha_link (driven_world sha_link bytes)
+        → HaltLaws (driven_world sha_link bytes) × (halts (driven_world sha_link bytes) ≡ 0) }
 
     // A group over the field ends as the play of it does. Where the field tells who runs, this is the trace over the model's
     // enclaves, or, where the field failed, the lines of the events before, and at Done the replicas of the model's group run in it;
@@ -171,6 +185,7 @@ pub fn run<S: Source, K: Sink, F: Field>(
     drill_holds();
     match read_words(alloc, words) {
         Ok(Some(Command::Play(Play::Replay))) => (replay(alloc, source, sink), field),
+        Ok(Some(Command::Play(Play::Drive))) => (drive(alloc, source, sink), field),
         Ok(Some(Command::Play(Play::Table { limit }))) => {
             (table(alloc, limit, source, sink), field)
         }

@@ -8,6 +8,8 @@ mod command;
 mod drill;
 #[cfg(test)]
 mod drill_tests;
+#[cfg(test)]
+mod drive_tests;
 mod edge;
 mod exit;
 mod group;

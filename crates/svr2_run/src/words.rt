@@ -20,6 +20,8 @@ const MOST_CLIENTS: u64 = 2_000;
 pub enum Play {
     /// A schedule.
     Replay,
+    /// A schedule of which each accepted want is carried to its report.
+    Drive,
     /// Requests to one table of this limit.
     Table { limit: u32 },
 }
@@ -230,6 +232,7 @@ pub fn read_words(alloc: Global, words: &[String]) -> Result<Option<Command>, Me
     };
     match name.as_str() {
         "replay" => read_plain(alloc, name.as_str(), Command::Play(Play::Replay), words),
+        "drive" => read_plain(alloc, name.as_str(), Command::Play(Play::Drive), words),
         "table" => read_table(alloc, words),
         "serve" => {
             let streams = read_serve(alloc, words)?;

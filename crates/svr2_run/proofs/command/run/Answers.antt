@@ -2,7 +2,7 @@ use Rattle.std.proofs.Common.{rules, ◌≡◌, map, string_bytes, Some}
 use Rattle.replica_model.specs.Linked.{sha_link}
 use Rattle.svr2_run.specs.Words.{command_of, tagging_of}
 use Rattle.svr2_run.specs.declared.words.Command.TheVariants as command
-use Rattle.svr2_run.specs.declared.words.Play.TheVariants.{Replay, Table}
+use Rattle.svr2_run.specs.declared.words.Play.TheVariants.{Drive, Replay, Table}
 use Rattle.svr2_run.proofs.Auditing.{unread_audit, unread_decides}
 use Rattle.svr2_run.proofs.Drilling.{one_drill}
 use Rattle.svr2_run.proofs.Groups.{unread_decides as undecided_group, unread_group}
@@ -111,3 +111,111 @@ returns-in-Ok-Some-Drill-clause-drills g c =
 
 pub returns-in-Ok-Some-Drill-clause-reports : goal.returns-in-Ok-Some-Drill-clause-reports
 returns-in-Ok-Some-Drill-clause-reports g c = c.schedule_reports.ensures.played sha_link
+
+pub returns-in-Ok-Some-Play-Drive-clause-plays : goal.returns-in-Ok-Some-Play-Drive-clause-plays
+returns-in-Ok-Some-Play-Drive-clause-plays g c =
+    let is : command_of (map string_bytes c.args.words.now) ≡ Some (command.Play Drive) = search rules in
+    command_plays _ Drive _ is c.drive.ensures.runs
+
+pub returns-in-Ok-Some-Play-Drive-clause-decided : goal.returns-in-Ok-Some-Play-Drive-clause-decided
+returns-in-Ok-Some-Play-Drive-clause-decided g c =
+    let is : command_of (map string_bytes c.args.words.now) ≡ Some (command.Play Drive) = search rules in
+    command_plays _ Drive _ is c.drive.ensures.decided
+
+pub returns-in-Ok-Some-Play-Drive-clause-frame_serves : goal.returns-in-Ok-Some-Play-Drive-clause-frame_serves
+returns-in-Ok-Some-Play-Drive-clause-frame_serves g c =
+    let is : command_of (map string_bytes c.args.words.now) ≡ Some (command.Play Drive) = search rules in
+    command_plays _ Drive _ is tt
+
+pub returns-in-Ok-Some-Play-Drive-clause-reports : goal.returns-in-Ok-Some-Play-Drive-clause-reports
+returns-in-Ok-Some-Play-Drive-clause-reports g c = c.schedule_reports.ensures.played sha_link
+
+pub returns-in-Ok-Some-Play-Replay-clause-driven_one_log : goal.returns-in-Ok-Some-Play-Replay-clause-driven_one_log
+returns-in-Ok-Some-Play-Replay-clause-driven_one_log g c = λ bytes within none. (c.headline.ensures.driven sha_link bytes within none).0
+
+pub returns-in-Ok-Some-Play-Replay-clause-acts_once : goal.returns-in-Ok-Some-Play-Replay-clause-acts_once
+returns-in-Ok-Some-Play-Replay-clause-acts_once g c = λ bytes within none. (c.headline.ensures.driven sha_link bytes within none).1
+
+pub returns-in-Ok-Some-Play-Replay-clause-driven_reports : goal.returns-in-Ok-Some-Play-Replay-clause-driven_reports
+returns-in-Ok-Some-Play-Replay-clause-driven_reports g c = c.schedule_reports.ensures.driven sha_link
+
+pub returns-in-Ok-Some-Play-Drive-clause-driven_one_log : goal.returns-in-Ok-Some-Play-Drive-clause-driven_one_log
+returns-in-Ok-Some-Play-Drive-clause-driven_one_log g c = λ bytes within none. (c.headline.ensures.driven sha_link bytes within none).0
+
+pub returns-in-Ok-Some-Play-Drive-clause-acts_once : goal.returns-in-Ok-Some-Play-Drive-clause-acts_once
+returns-in-Ok-Some-Play-Drive-clause-acts_once g c = λ bytes within none. (c.headline.ensures.driven sha_link bytes within none).1
+
+pub returns-in-Ok-Some-Play-Drive-clause-driven_reports : goal.returns-in-Ok-Some-Play-Drive-clause-driven_reports
+returns-in-Ok-Some-Play-Drive-clause-driven_reports g c = c.schedule_reports.ensures.driven sha_link
+
+pub returns-in-Ok-Some-Play-Table-clause-driven_one_log : goal.returns-in-Ok-Some-Play-Table-clause-driven_one_log
+returns-in-Ok-Some-Play-Table-clause-driven_one_log g c = λ bytes within none. (c.headline.ensures.driven sha_link bytes within none).0
+
+pub returns-in-Ok-Some-Play-Table-clause-acts_once : goal.returns-in-Ok-Some-Play-Table-clause-acts_once
+returns-in-Ok-Some-Play-Table-clause-acts_once g c = λ bytes within none. (c.headline.ensures.driven sha_link bytes within none).1
+
+pub returns-in-Ok-Some-Play-Table-clause-driven_reports : goal.returns-in-Ok-Some-Play-Table-clause-driven_reports
+returns-in-Ok-Some-Play-Table-clause-driven_reports g c = c.schedule_reports.ensures.driven sha_link
+
+pub returns-in-Ok-Some-Group-clause-driven_one_log : goal.returns-in-Ok-Some-Group-clause-driven_one_log
+returns-in-Ok-Some-Group-clause-driven_one_log g c = λ bytes within none. (c.headline.ensures.driven sha_link bytes within none).0
+
+pub returns-in-Ok-Some-Group-clause-acts_once : goal.returns-in-Ok-Some-Group-clause-acts_once
+returns-in-Ok-Some-Group-clause-acts_once g c = λ bytes within none. (c.headline.ensures.driven sha_link bytes within none).1
+
+pub returns-in-Ok-Some-Group-clause-driven_reports : goal.returns-in-Ok-Some-Group-clause-driven_reports
+returns-in-Ok-Some-Group-clause-driven_reports g c = c.schedule_reports.ensures.driven sha_link
+
+pub returns-in-Ok-Some-Serve-clause-driven_one_log : goal.returns-in-Ok-Some-Serve-clause-driven_one_log
+returns-in-Ok-Some-Serve-clause-driven_one_log g c = λ bytes within none. (c.headline.ensures.driven sha_link bytes within none).0
+
+pub returns-in-Ok-Some-Serve-clause-acts_once : goal.returns-in-Ok-Some-Serve-clause-acts_once
+returns-in-Ok-Some-Serve-clause-acts_once g c = λ bytes within none. (c.headline.ensures.driven sha_link bytes within none).1
+
+pub returns-in-Ok-Some-Serve-clause-driven_reports : goal.returns-in-Ok-Some-Serve-clause-driven_reports
+returns-in-Ok-Some-Serve-clause-driven_reports g c = c.schedule_reports.ensures.driven sha_link
+
+pub returns-in-Ok-Some-Tagged-clause-driven_one_log : goal.returns-in-Ok-Some-Tagged-clause-driven_one_log
+returns-in-Ok-Some-Tagged-clause-driven_one_log g c = λ bytes within none. (c.headline.ensures.driven sha_link bytes within none).0
+
+pub returns-in-Ok-Some-Tagged-clause-acts_once : goal.returns-in-Ok-Some-Tagged-clause-acts_once
+returns-in-Ok-Some-Tagged-clause-acts_once g c = λ bytes within none. (c.headline.ensures.driven sha_link bytes within none).1
+
+pub returns-in-Ok-Some-Tagged-clause-driven_reports : goal.returns-in-Ok-Some-Tagged-clause-driven_reports
+returns-in-Ok-Some-Tagged-clause-driven_reports g c = c.schedule_reports.ensures.driven sha_link
+
+pub returns-in-Ok-Some-Audit-clause-driven_one_log : goal.returns-in-Ok-Some-Audit-clause-driven_one_log
+returns-in-Ok-Some-Audit-clause-driven_one_log g c = λ bytes within none. (c.headline.ensures.driven sha_link bytes within none).0
+
+pub returns-in-Ok-Some-Audit-clause-acts_once : goal.returns-in-Ok-Some-Audit-clause-acts_once
+returns-in-Ok-Some-Audit-clause-acts_once g c = λ bytes within none. (c.headline.ensures.driven sha_link bytes within none).1
+
+pub returns-in-Ok-Some-Audit-clause-driven_reports : goal.returns-in-Ok-Some-Audit-clause-driven_reports
+returns-in-Ok-Some-Audit-clause-driven_reports g c = c.schedule_reports.ensures.driven sha_link
+
+pub returns-in-Ok-Some-Drill-clause-driven_one_log : goal.returns-in-Ok-Some-Drill-clause-driven_one_log
+returns-in-Ok-Some-Drill-clause-driven_one_log g c = λ bytes within none. (c.headline.ensures.driven sha_link bytes within none).0
+
+pub returns-in-Ok-Some-Drill-clause-acts_once : goal.returns-in-Ok-Some-Drill-clause-acts_once
+returns-in-Ok-Some-Drill-clause-acts_once g c = λ bytes within none. (c.headline.ensures.driven sha_link bytes within none).1
+
+pub returns-in-Ok-Some-Drill-clause-driven_reports : goal.returns-in-Ok-Some-Drill-clause-driven_reports
+returns-in-Ok-Some-Drill-clause-driven_reports g c = c.schedule_reports.ensures.driven sha_link
+
+pub returns-in-Ok-None-clause-driven_one_log : goal.returns-in-Ok-None-clause-driven_one_log
+returns-in-Ok-None-clause-driven_one_log g c = λ bytes within none. (c.headline.ensures.driven sha_link bytes within none).0
+
+pub returns-in-Ok-None-clause-acts_once : goal.returns-in-Ok-None-clause-acts_once
+returns-in-Ok-None-clause-acts_once g c = λ bytes within none. (c.headline.ensures.driven sha_link bytes within none).1
+
+pub returns-in-Ok-None-clause-driven_reports : goal.returns-in-Ok-None-clause-driven_reports
+returns-in-Ok-None-clause-driven_reports g c = c.schedule_reports.ensures.driven sha_link
+
+pub returns-in-Err-clause-driven_one_log : goal.returns-in-Err-clause-driven_one_log
+returns-in-Err-clause-driven_one_log g c = λ bytes within none. (c.headline.ensures.driven sha_link bytes within none).0
+
+pub returns-in-Err-clause-acts_once : goal.returns-in-Err-clause-acts_once
+returns-in-Err-clause-acts_once g c = λ bytes within none. (c.headline.ensures.driven sha_link bytes within none).1
+
+pub returns-in-Err-clause-driven_reports : goal.returns-in-Err-clause-driven_reports
+returns-in-Err-clause-driven_reports g c = c.schedule_reports.ensures.driven sha_link

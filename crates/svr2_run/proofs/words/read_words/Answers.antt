@@ -6,6 +6,7 @@ pub returns-in_default-as_str-clause-command : goal.returns-in_default-as_str-cl
 returns-in_default-as_str-clause-command c =
     no_command string_bytes c.args.words.now c.in-Some.name.now (search rules) (
       (λ e. c.in_default-as_str.not-replay (c.as_str.ensures.value ∙ e)),
+      (λ e. c.in_default-as_str.not-drive (c.as_str.ensures.value ∙ e)),
       (λ e. c.in_default-as_str.not-table (c.as_str.ensures.value ∙ e)),
       (λ e. c.in_default-as_str.not-serve (c.as_str.ensures.value ∙ e)),
       (λ e. c.in_default-as_str.not-tagged (c.as_str.ensures.value ∙ e)),

@@ -1,0 +1,9 @@
+mod Tame
+mod Composed
+mod Lifted
+mod Turning
+mod Records
+mod Loops
+mod Given
+mod Opening
+mod Wanted
