@@ -9,7 +9,8 @@ use Rattle.replica_model.proofs.Paths.{conf-append}
 use Rattle.group_model.specs.Log.{IsFrontOf}
 use Rattle.group_model.specs.Log.{MetBy}
 use Rattle.agreement.specs.Promised.{EachPlacePromised}
-use Rattle.agreement.proofs.Promised.{first_of_front, each_shorter}
+use Rattle.agreement.proofs.Fronts.{first_of_front}
+use Rattle.agreement.proofs.Promised.{each_shorter}
 use Rattle.agreement.proofs.Places.{has_members, conf_plain, last_at, first_members, take_before, take_upto, take_front}
 
 -- each place up to a Members entry of the path was promised, except for the last one

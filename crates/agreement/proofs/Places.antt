@@ -2,22 +2,16 @@
 use Rattle.std.proofs.Common.{◌≡◌, ℕ, ◌≤◌, zero, suc, ◌+◌, Bool, true, false, ◌||◌, ◌⊎◌, inl, inr, [], ◌∷◌, ◌++◌, length, take, drop, refl, sym, ap, ◌∙◌, subst, cond, add-one, arith}
 use Rattle.std.proofs.lemmas.Bool.{or_parts, or_cases, or_right, cases_Bool}
 use Rattle.std.proofs.lemmas.List.{take_at, take-take, take-append-drop}
-use Rattle.values.specs.declared.entry.Body.{Body}
-use Rattle.values.specs.declared.entry.Body.TheVariants.{Noop, Ask, Members}
 use Rattle.values.specs.declared.entry.LogEntry.{LogEntry}
 use Rattle.group_quorum.specs.Conf.{Conf}
 use Rattle.replica_model.specs.Path.{Path}
-use Rattle.replica_model.specs.Configs.{is_members, changed_by, conf, conf_index_from, conf_index}
+use Rattle.replica_model.specs.Configs.{is_members, conf, conf_index_from, conf_index}
+use Rattle.replica_model.proofs.Paths.{changed_plain}
 use Rattle.group_model.specs.Log.{IsFrontOf}
 
 abbrev pub has_members : Path → Bool
 has_members [] = false
 has_members (e ∷ p) = is_members e.body || has_members p
-
-changed_plain : (c : Conf) (b : Body) → is_members b ≡ false → changed_by c b ≡ c
-changed_plain c Noop h = refl
-changed_plain c (Ask client number request) h = refl
-changed_plain c (Members margin voters) h = cc
 
 -- with no Members entry the configuration stays
 pub conf_plain : (first : Conf) (t : Path) → has_members t ≡ false → conf first t ≡ first

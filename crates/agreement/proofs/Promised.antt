@@ -13,11 +13,8 @@ use Rattle.agreement.specs.Promised.{IsComparable}
 use Rattle.group_model.specs.Log.{MetBy}
 use Rattle.agreement.specs.Promised.{EachPlacePromised, Bears, KeepsToOnePath}
 use Rattle.agreement.proofs.Counting.{some_voter, shared_voter}
+use Rattle.agreement.proofs.Fronts.{first_of_front}
 use Rattle.replica_model.proofs.Paths.{conf-append}
-
--- one entry further on a path
-pub first_of_front : (c : Path) (a : LogEntry) (r : Path) → IsFrontOf (c ++ a ∷ []) (c ++ a ∷ r)
-first_of_front c a r = (r, append_assoc c (a ∷ []) r)
 
 same_next : (c : Path) (a b : LogEntry) → IsFrontOf (c ++ a ∷ []) (c ++ b ∷ []) → a ≡ b
 same_next c a b pre =

@@ -1,9 +1,9 @@
 -- The canonical bytes of requests, byte by byte.
-use Rattle.std.proofs.Common.{◌≡◌, ◌≢◌, ℕ, zero, suc, ◌+◌, ◌-◌, ◌*◌, ◌/◌, ◌%◌, ◌<◌, ◌≤◌, Bool, true, false, cond, eqb, List, [], ◌∷◌, ◌++◌, length, get_or, take, drop, Option, None, Some, Result, Ok, Err, refl, sym, ap, ◌∙◌, arith, inl, inr}
-use Rattle.std.specs.Prelude.{nat_eq, nat_le}
+use Rattle.std.proofs.Common.{◌≡◌, ◌≢◌, ℕ, zero, suc, ◌+◌, ◌-◌, ◌*◌, ◌/◌, ◌%◌, ◌<◌, ◌≤◌, Bool, true, false, eqb, List, [], ◌∷◌, ◌++◌, length, get_or, take, drop, Option, None, Some, Result, Ok, Err, refl, sym, ap, ◌∙◌, arith, inl, inr}
+use Rattle.std.specs.Prelude.{nat_eq}
 use Rattle.std.specs.Bool.{Decides, one_answer}
 use Rattle.std.specs.Cmp.Lexicographic.{pointwise, same_text, other_text}
-use Rattle.std.proofs.lemmas.Bool.{cases_Bool, cases_lt, and_parts, leb-true, eqb-true}
+use Rattle.std.proofs.lemmas.Bool.{cases_Bool, cases_lt, eqb-true}
 use Rattle.std.proofs.lemmas.List.{length-append, length-drop, drop_at, length-take-le, take-append-drop}
 use Rattle.proto_wire.specs.declared.field.WireFault.{WireFault}
 use Rattle.proto_wire.specs.Varint.{varint}
@@ -18,10 +18,10 @@ use Rattle.values.specs.declared.message.Request.TheVariants as requests
 use Rattle.client_msgs.specs.declared.fault.RequestFault.{RequestFault}
 use Rattle.client_msgs.specs.Canonical.{canonical_request, request_number, request_fields}
 use Rattle.client_msgs.specs.Reading.{request_from, if_sized, request_in, request_of}
-use Rattle.client_msgs.specs.Sizes.{outside, size_fault, FitsRequest}
+use Rattle.client_msgs.specs.Sizes.{size_fault, FitsRequest}
 use Rattle.client_msgs.specs.Strict.{is_written_as, is_canonical, IsCanonical}
 use Rattle.client_msgs.proofs.RoundTrip.{request_of-canonical}
-use Rattle.client_msgs.proofs.SizesLemmas.{or-none}
+use Rattle.client_msgs.proofs.SizesLemmas.{size_fault-valid}
 
 -- ---- short lists by their bytes
 
@@ -96,27 +96,6 @@ begins-from number len (a ∷ b ∷ xs) low some short few tag-is len-is =
 
 -- ---- the whole request
 
-if_none : {X : Type 0} (y : X) (b : Bool) → cond b None (Some y) ≡ None → b ≡ true
-if_none y true is = refl
-if_none y false is = absurd cc
-
-in_range : (part : Part) (least most n : ℕ) → outside part least most n ≡ None → (least ≤ n) × (n ≤ most)
-in_range part least most n is =
-    let both = and_parts (nat_le least n) (nat_le n most) (if_none _ _ is) in
-    (leb-true least n both.0, leb-true n most both.1)
-
-valid_from : (request : Request) → size_fault request ≡ None → IsValid request × FitsRequest request
-valid_from (requests.Backup secret pin tries) is =
-    let first = or-none _ _ is in
-    let second = or-none _ _ first.1 in
-    let pin-is = in_range _ 32 32 (length pin.0) second.0 in
-    ((in_range _ 16 48 (length secret) first.0, in_range _ 1 255 tries second.1), omega (arith, pin-is.0, pin-is.1))
-valid_from (requests.Restore pin) is =
-    let pin-is = in_range _ 32 32 (length pin.0) is in
-    (tt, omega (arith, pin-is.0, pin-is.1))
-valid_from requests.Delete is = (tt, tt)
-valid_from (requests.Expose secret) is = (in_range _ 16 48 (length secret) is, tt)
-
 if_sized-ok : (fault : Option (Part × ℕ)) (read request : Request) → if_sized fault read ≡ Ok request → (fault ≡ None) × (read ≡ request)
 if_sized-ok None read request is = (refl, cc)
 if_sized-ok (Some (part, n)) read request is = absurd cc
@@ -140,7 +119,7 @@ decides-canonical bytes = (told (request_of bytes) refl, all)
   where
     told : (read : Result Request RequestFault) → request_of bytes ≡ read → is_written_as bytes read ≡ true → IsCanonical bytes
     told (Ok request) is same =
-        let valid = valid_from request (request_in-ok (first_fault 2 5 (sequence_at 0 bytes)) (last_member 2 5 (sequence_at 0 bytes).fields) request is) in
+        let valid = size_fault-valid request (request_in-ok (first_fault 2 5 (sequence_at 0 bytes)) (last_member 2 5 (sequence_at 0 bytes).fields) request is) in
         (request, (valid.0, (valid.1, sym (same_text (canonical_request request) bytes (sym same)))))
     told (Err fault) is same = absurd cc
 

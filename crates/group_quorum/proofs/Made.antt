@@ -6,15 +6,16 @@ use Rattle.std.specs.Ordering.{nat_cmp}
 use Rattle.std.proofs.lemmas.List.Sorted.{IsNonDecreasingBy-from_sort, sum_by-IsPermutation}
 use Rattle.std.proofs.lemmas.List.{take_at, drop_at, drop-replicate, length-replicate}
 use Rattle.group_quorum.specs.Stored.{IsStored}
-use Rattle.std.proofs.lemmas.Bool.{cond_both, cond-true, cond-false, ltb-true, ltb-false, le-ltb, eqb-true, and_parts, and_from, lt-ltb, not_from_true, not_from_false}
+use Rattle.std.proofs.lemmas.Bool.{cond-true, cond-false, ltb-true, ltb-false, le-ltb, eqb-true, and_parts, and_from, lt-ltb, not_from_true, not_from_false}
 use Rattle.std.proofs.lemmas.List.Elements.{All-cons, All-nil, All-head, All-tail}
 use Rattle.std.proofs.lemmas.List.Folds.{list_any-append}
 use Rattle.group_quorum.specs.Conf.{Conf}
-use Rattle.group_quorum.specs.Voters.{is_id, is_in, first_bad, first_double, few_fault, double_fault, bad_fault, fault_of, insert_rising, rising, conf_of, conf_or, IsId, IsSound}
+use Rattle.group_quorum.specs.Voters.{is_id, is_in, first_bad, first_double, few_fault, double_fault, bad_fault, fault_of, rising, conf_of, conf_or, IsId, IsSound}
 use Rattle.group_quorum.specs.declared.ConfigFault.TheVariants.{TooMany, TooFew}
 use Rattle.group_quorum.specs.declared.TheConstants.{MAX_VOTERS, MAX_ID}
 use Rattle.group_quorum.proofs.Counting.{bit}
 use Rattle.group_quorum.proofs.Rising.{climbs, copies, copies-cons, copies_same, Climbs, Rises, rises, climbs_rising, once, same_in_order, strictly, rising_copies, rising_climbs}
+use Rattle.group_quorum.proofs.Inserted.{rising_length, insert_all}
 
 -- no id of the list stands twice, nor in what was seen
 abbrev pub Once : List ℕ → List ℕ → Type 0
@@ -144,20 +145,6 @@ sorted_is ids sorted moved up =
 
 pub zeros_behind : (n : ℕ) → drop {A = ℕ} n (replicate MAX_VOTERS 0) ≡ replicate (MAX_VOTERS - n) 0
 zeros_behind n = drop-replicate n MAX_VOTERS 0
-
-insert_length : (w : ℕ) (xs : List ℕ) → length (insert_rising w xs) ≡ 1 + length xs
-insert_length w [] = refl
-insert_length w (x ∷ xs) = cond_both (ltb w x) (w ∷ x ∷ xs) (x ∷ insert_rising w xs) (λ ys. length ys ≡ 1 + length (x ∷ xs)) (λ e. omega arith) (λ e. omega (arith, insert_length w xs))
-
-pub rising_length : (xs : List ℕ) → length (rising xs) ≡ length xs
-rising_length [] = refl
-rising_length (x ∷ xs) = omega (arith, insert_length x (rising xs), rising_length xs)
-
-insert_all : (P : ℕ → Type 0) (w : ℕ) (xs : List ℕ) → P w → All P xs → All P (insert_rising w xs)
-insert_all P w [] h all = All-cons P w [] h all
-insert_all P w (x ∷ xs) h all = cond_both (ltb w x) (w ∷ x ∷ xs) (x ∷ insert_rising w xs) (All P)
-    (λ e. All-cons P w (x ∷ xs) h all)
-    (λ e. All-cons P x (insert_rising w xs) (All-head P x xs all) (insert_all P w xs h (All-tail P x xs all)))
 
 rising_all : (P : ℕ → Type 0) (xs : List ℕ) → All P xs → All P (rising xs)
 rising_all P [] all = all

@@ -1,16 +1,9 @@
 -- The bytes of an input give the input back.
-use Rattle.std.proofs.Common.{◌≡◌, ℕ, ◌<◌, ◌^◌, List, [], ◌∷◌, ◌++◌, length, take, drop, refl, sym, ap, ◌∙◌}
-use Rattle.std.proofs.lemmas.List.{take_at, drop_at}
+use Rattle.std.proofs.Common.{◌≡◌, ℕ, ◌<◌, ◌^◌, List, [], ◌∷◌, ◌++◌, refl, sym, ap, ◌∙◌}
 use Rattle.byteorder.specs.Endian.{big_bytes, big_number}
 use Rattle.byteorder.specs.Numbers.{big_number-reads_back}
 use Rattle.hash_chain.specs.Links.{LinkInput, BytesTellInputs}
-
--- two lists whose fronts are as long are equal part by part
-same_front : (p q r s : List ℕ) → length p ≡ length q → p ++ r ≡ q ++ s → p ≡ q
-same_front p q r s long e = sym (take_at p r (length p) refl) ∙ ap (take (length p)) e ∙ take_at q s (length p) (sym long)
-
-same_rest : (p q r s : List ℕ) → length p ≡ length q → p ++ r ≡ q ++ s → r ≡ s
-same_rest p q r s long e = sym (drop_at p r (length p) refl) ∙ ap (drop (length p)) e ∙ drop_at q s (length p) (sym long)
+use Rattle.hash_chain.proofs.Fronts.{same_front, same_rest}
 
 same_number : (x y : ℕ) → x < 2 ^ 64 → y < 2 ^ 64 → big_bytes 8 x ≡ big_bytes 8 y → x ≡ y
 same_number x y a b e = sym (big_number-reads_back 8 x [] a) ∙ ap (λ bytes. big_number 8 (bytes ++ [])) e ∙ big_number-reads_back 8 y [] b

@@ -101,7 +101,10 @@ pub varint_field-few : (number n : ℕ) → length (varint_field number n) ≤ 2
 varint_field-few number zero = omega arith
 varint_field-few number (suc n) = omega (arith, length-append (tag number 0) (varint (suc n)), groups-few 9 (8 * number + 0), groups-few 9 (suc n))
 
+pub message_field-few : (number : ℕ) (bytes : List ℕ) → length (message_field number bytes) ≤ 20 + length bytes
+message_field-few number bytes =
+    omega (arith, length-append (tag number 2 ++ varint (length bytes)) bytes, length-append (tag number 2) (varint (length bytes)), groups-few 9 (8 * number + 2), groups-few 9 (length bytes))
+
 pub block_field-few : (number : ℕ) (bytes : List ℕ) → length (block_field number bytes) ≤ 20 + length bytes
 block_field-few number [] = omega arith
-block_field-few number (b ∷ bytes) =
-    omega (arith, length-append (tag number 2 ++ varint (length (b ∷ bytes))) (b ∷ bytes), length-append (tag number 2) (varint (length (b ∷ bytes))), groups-few 9 (8 * number + 2), groups-few 9 (length (b ∷ bytes)))
+block_field-few number (b ∷ bytes) = message_field-few number (b ∷ bytes)

@@ -88,7 +88,7 @@ found (r ∷ rows) client row e = by (client_eq r.client client) e (found rows c
     by true e later = record { place = 0; there = e; valid = λ valid. let same : r ≡ row = cc in subst IsValidRow same (valid 0 r (omega arith)) }
     by false e later = let f = later e in record { place = suc f.place; there = f.there; valid = λ valid. f.valid (tail r rows valid) }
 
-length_put : (rows : List Row) (row : Row) → length (put_row rows row) ≤ length rows + 1
+pub length_put : (rows : List Row) (row : Row) → length (put_row rows row) ≤ length rows + 1
 length_put [] row = omega arith
 length_put (r ∷ rows) row = by (client_cmp row.client r.client) (length_put rows row)
   where

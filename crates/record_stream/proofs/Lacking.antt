@@ -17,12 +17,12 @@ first b x xs n h = elim (cases_Bool (x == b)) [ inl y ↦ absurd (h 0 (omega ari
 
 -- ---- lines
 
-last_part-lacks : (p xs : List ℕ) → Lacks 10 xs (length xs) → last_part p xs ≡ p ++ xs
+pub last_part-lacks : (p xs : List ℕ) → Lacks 10 xs (length xs) → last_part p xs ≡ p ++ xs
 unfolding last_part
 last_part-lacks p [] h = sym (append-nil p)
 last_part-lacks p (b ∷ xs) h = rw (first 10 b xs (length xs) h) (last_part-lacks (p ++ (b ∷ [])) xs (later 10 b xs (length xs) h) ∙ append_assoc p (b ∷ []) xs)
 
-whole_lines-lacks : (p xs : List ℕ) → Lacks 10 xs (length xs) → whole_lines p xs ≡ []
+pub whole_lines-lacks : (p xs : List ℕ) → Lacks 10 xs (length xs) → whole_lines p xs ≡ []
 unfolding whole_lines
 whole_lines-lacks p [] h = refl
 whole_lines-lacks p (b ∷ xs) h = rw (first 10 b xs (length xs) h) (whole_lines-lacks (p ++ (b ∷ [])) xs (later 10 b xs (length xs) h))
@@ -30,9 +30,6 @@ whole_lines-lacks p (b ∷ xs) h = rw (first 10 b xs (length xs) h) (whole_lines
 -- no line feed: no record, and all of it is kept
 pub lacks_records : (p xs : List ℕ) → Lacks 10 xs (length xs) → records_after p xs ≡ []
 lacks_records p xs h = rw (whole_lines-lacks p xs h) refl
-
-pub lacks_part : (p xs : List ℕ) → Lacks 10 xs (length xs) → last_part p xs ≡ p ++ xs
-lacks_part p xs h = last_part-lacks p xs h
 
 pub take_lacks : (b : ℕ) (xs : List ℕ) (n : ℕ) → n ≤ length xs → Lacks b xs n → Lacks b (take n xs) (length (take n xs))
 take_lacks b [] zero lt h = h
@@ -50,7 +47,7 @@ line_ends p bytes h = (
   records_after-append p bytes (10 ∷ [])
       ∙ ap (λ (l : List Record). l ++ records_after (last_part p bytes) (10 ∷ [])) (lacks_records p bytes h)
       ∙ records_after-feed (last_part p bytes)
-      ∙ ap (λ (l : List ℕ). line_records (l ++ (10 ∷ []))) (lacks_part p bytes h)
+      ∙ ap (λ (l : List ℕ). line_records (l ++ (10 ∷ []))) (last_part-lacks p bytes h)
       ∙ ap line_records (append_assoc p bytes (10 ∷ [])),
   last_part-append p bytes (10 ∷ []) ∙ last_part-feed (last_part p bytes),
 )

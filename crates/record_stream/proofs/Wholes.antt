@@ -9,7 +9,7 @@ use Rattle.record_stream.specs.Plain.{plain_records}
 use Rattle.record_stream.specs.declared.player.Stop.{Stop}
 use Rattle.record_stream.proofs.Courses.{advances_none, advances_then, cuts_with, grows_none, grows_then, plays_then, stops_in}
 use Rattle.record_stream.proofs.Cuts.{last_part-append, last_part-none, records_after-append, records_after-none, records_after-split}
-use Rattle.record_stream.proofs.Lacking.{Lacks, lacks_part, lacks_records, line_ends}
+use Rattle.record_stream.proofs.Lacking.{Lacks, last_part-lacks, lacks_records, line_ends}
 use Rattle.record_stream.proofs.PlainLines.{plain_lacks, plain_line}
 use Rattle.record_stream.proofs.Walks.{between_more, between_rest, lacks_between, take_between}
 
@@ -91,7 +91,7 @@ module _ (begun piece : List ℕ) (none : Nowhere (Passes (is_byte 10) piece) 0 
   begun_none = lacks_records begun piece begun_lacks
 
   pub begun_more : last_part begun piece ≡ begun ++ piece
-  begun_more = lacks_part begun piece begun_lacks
+  begun_more = last_part-lacks begun piece begun_lacks
 
 -- ---- the lines so far
 
@@ -153,4 +153,4 @@ module _ {S R W G : Type 0} (gains : S → S → List G → Type 0) (takes : S �
     pub played_rest : drop start piece ≡ last_part [] piece
     played_rest =
         sym (ap (last_part []) (sym (take-append-drop start piece)) ∙ last_part-append [] (take start piece) (drop start piece)
-        ∙ ap (λ (p : List ℕ). last_part p (drop start piece)) played.rest ∙ lacks_part [] (drop start piece) lacks)
+        ∙ ap (λ (p : List ℕ). last_part p (drop start piece)) played.rest ∙ last_part-lacks [] (drop start piece) lacks)

@@ -1,22 +1,15 @@
 -- The bytes of a body give the body back.
-use Rattle.std.proofs.Common.{◌≡◌, ℕ, suc, ◌<◌, ◌^◌, List, [], ◌∷◌, ◌++◌, length, take, drop, refl, sym, ap, ◌∙◌, arith}
+use Rattle.std.proofs.Common.{◌≡◌, ℕ, suc, ◌<◌, ◌^◌, List, [], ◌∷◌, ◌++◌, length, refl, sym, ap, ◌∙◌, arith}
 use Rattle.std.specs.Prelude.{All}
 use Rattle.std.specs.List.{flat_map}
-use Rattle.std.proofs.lemmas.List.{take_at, drop_at}
 use Rattle.std.proofs.lemmas.List.Elements.{All-head}
 use Rattle.byteorder.specs.Endian.{big_bytes, big_number}
 use Rattle.byteorder.specs.Numbers.{big_number-reads_back}
 use Rattle.values.specs.declared.ids.ClientId.{ClientId}
 use Rattle.values.specs.declared.entry.Body.TheVariants.{Noop, Ask, Members}
+use Rattle.hash_chain.proofs.Fronts.{same_front, same_rest}
 use Rattle.replica_model.specs.Linked.{body_bytes}
 use Rattle.replica_model.specs.Laws.{IsInRange, BytesTellBodies}
-
--- two lists whose fronts are as long are equal part by part
-front : (p q r s : List ℕ) → length p ≡ length q → p ++ r ≡ q ++ s → p ≡ q
-front p q r s long e = sym (take_at p r (length p) refl) ∙ ap (take (length p)) e ∙ take_at q s (length p) (sym long)
-
-rest : (p q r s : List ℕ) → length p ≡ length q → p ++ r ≡ q ++ s → r ≡ s
-rest p q r s long e = sym (drop_at p r (length p) refl) ∙ ap (drop (length p)) e ∙ drop_at q s (length p) (sym long)
 
 number : (n x y : ℕ) → x < 256 ^ n → y < 256 ^ n → big_bytes n x ≡ big_bytes n y → x ≡ y
 number n x y a b e = sym (big_number-reads_back n x [] a) ∙ ap (λ bytes. big_number n (bytes ++ [])) e ∙ big_number-reads_back n y [] b
@@ -34,17 +27,17 @@ voters (x ∷ xs) [] rx ry long e = absurd (omega (arith, long))
 voters (x ∷ xs) (y ∷ ys) rx ry long e =
     let fx : List ℕ = flat_map (big_bytes 4) xs in
     let fy : List ℕ = flat_map (big_bytes 4) ys in
-    let v : x ≡ y = number 4 x y (All-head (λ v. v < 2 ^ 32) x xs rx) (All-head (λ v. v < 2 ^ 32) y ys ry) (front (big_bytes 4 x) (big_bytes 4 y) fx fy refl e) in
-    let vs : xs ≡ ys = voters xs ys (tail x xs rx) (tail y ys ry) (omega (arith, long)) (rest (big_bytes 4 x) (big_bytes 4 y) fx fy refl e) in
+    let v : x ≡ y = number 4 x y (All-head (λ v. v < 2 ^ 32) x xs rx) (All-head (λ v. v < 2 ^ 32) y ys ry) (same_front (big_bytes 4 x) (big_bytes 4 y) fx fy refl e) in
+    let vs : xs ≡ ys = voters xs ys (tail x xs rx) (tail y ys ry) (omega (arith, long)) (same_rest (big_bytes 4 x) (big_bytes 4 y) fx fy refl e) in
     ap (λ w. w ∷ xs) v ∙ ap (λ ws. y ∷ ws) vs
 
 ask : (c d : ClientId) (n m : ℕ) (r s : List ℕ) → IsInRange (Ask c n r) → IsInRange (Ask d m s) → body_bytes (Ask c n r) ≡ body_bytes (Ask d m s) → Ask c n r ≡ Ask d m s
 ask c d n m r s rc rd e =
     let long : length c.0 ≡ length d.0 = rc.0 ∙ sym rd.0 in
-    let client : c.0 ≡ d.0 = front c.0 d.0 (big_bytes 8 n ++ r) (big_bytes 8 m ++ s) long e in
-    let after : big_bytes 8 n ++ r ≡ big_bytes 8 m ++ s = rest c.0 d.0 (big_bytes 8 n ++ r) (big_bytes 8 m ++ s) long e in
-    let numbers : n ≡ m = number 8 n m rc.1 rd.1 (front (big_bytes 8 n) (big_bytes 8 m) r s refl after) in
-    let requests : r ≡ s = rest (big_bytes 8 n) (big_bytes 8 m) r s refl after in
+    let client : c.0 ≡ d.0 = same_front c.0 d.0 (big_bytes 8 n ++ r) (big_bytes 8 m ++ s) long e in
+    let after : big_bytes 8 n ++ r ≡ big_bytes 8 m ++ s = same_rest c.0 d.0 (big_bytes 8 n ++ r) (big_bytes 8 m ++ s) long e in
+    let numbers : n ≡ m = number 8 n m rc.1 rd.1 (same_front (big_bytes 8 n) (big_bytes 8 m) r s refl after) in
+    let requests : r ≡ s = same_rest (big_bytes 8 n) (big_bytes 8 m) r s refl after in
     ap (λ x. Ask (record { 0 = x }) n r) client ∙ ap (λ x. Ask d x r) numbers ∙ ap (Ask d m) requests
 
 members : (m k : ℕ) (xs ys : List ℕ) → IsInRange (Members m xs) → IsInRange (Members k ys) → body_bytes (Members m xs) ≡ body_bytes (Members k ys) → Members m xs ≡ Members k ys

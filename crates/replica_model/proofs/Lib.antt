@@ -1,5 +1,7 @@
 pub mod RisingIds
 pub mod Paths
+pub mod Parts
+pub mod United
 pub mod Greatest
 pub mod Bodies
 mod Worked

@@ -1,8 +1,12 @@
--- The chain and the configurations of a path and more entries.
-use Rattle.std.proofs.Common.{◌≡◌, ℕ, ◌+◌, [], ◌∷◌, ◌++◌, length, cond, refl, ap, ◌∙◌, arith}
+-- The chain and the configurations of a path and more entries, and the terms of its fronts.
+use Rattle.std.proofs.Common.{◌≡◌, ℕ, zero, suc, ◌+◌, ◌≤◌, false, [], ◌∷◌, ◌++◌, length, take, slice_get, option_map, unwrap_or, cond, refl, ap, ◌∙◌, arith}
+use Rattle.std.proofs.lemmas.List.{length-take-le}
+use Rattle.values.specs.declared.entry.Body.{Body}
+use Rattle.values.specs.declared.entry.Body.TheVariants.{Noop, Ask, Members}
 use Rattle.values.specs.declared.entry.Hash.{Hash}
+use Rattle.values.specs.declared.entry.LogEntry.{LogEntry}
 use Rattle.group_quorum.specs.Conf.{Conf}
-use Rattle.replica_model.specs.Path.{Path, Link, chain_from, chain, first_hash}
+use Rattle.replica_model.specs.Path.{Path, Link, chain_from, chain, first_hash, last_term, term_at}
 use Rattle.replica_model.specs.Configs.{is_members, changed_by, conf, conf_index_from, conf_index}
 use Rattle.replica_model.specs.Laws.{ChainFollows, ConfFollows}
 
@@ -33,3 +37,22 @@ conf_index-append p q = conf_index_from-append 0 0 p q ∙ ap (λ n. conf_index_
 
 pub conf-push : ConfFollows
 conf-push first p e = record { conf = conf-append first p (e ∷ []); index = conf_index-append p (e ∷ []) }
+
+-- the configuration stays under an entry that is no Members entry
+pub changed_plain : (c : Conf) (b : Body) → is_members b ≡ false → changed_by c b ≡ c
+changed_plain c Noop h = refl
+changed_plain c (Ask client number request) h = refl
+changed_plain c (Members margin voters) h = cc
+
+-- the last term of a front is the term at its index
+get-take : (k : ℕ) (p : Path) → slice_get (take (suc k) p) k ≡ slice_get p k
+get-take k [] = refl
+get-take zero (e ∷ p) = refl
+get-take (suc k) (e ∷ p) = get-take k p
+
+term_at-take : (i : ℕ) (p : Path) → term_at (take i p) i ≡ term_at p i
+term_at-take zero p = refl
+term_at-take (suc k) p = ap (λ o. unwrap_or (option_map (λ (e : LogEntry). e.term) o) 0) (get-take k p)
+
+pub last_term-take : (i : ℕ) (p : Path) → i ≤ length p → last_term (take i p) ≡ term_at p i
+last_term-take i p le = ap (λ n. term_at (take i p) n) (length-take-le i p le) ∙ term_at-take i p

@@ -1,2 +1,3 @@
 mod Worked
 pub mod Fields
+pub mod Numbers
