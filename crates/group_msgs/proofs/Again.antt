@@ -8,14 +8,12 @@ use Rattle.std.proofs.lemmas.List.{append-nil, length-append, length-map, get_or
 use Rattle.std.proofs.lemmas.List.Concat.{flat_map-cons}
 use Rattle.std.proofs.lemmas.List.Elements.{filter_map-append, recursion_from_All}
 use Rattle.proto_wire.specs.declared.field.WireFault.{WireFault}
-use Rattle.proto_wire.specs.Varint.{varint}
 use Rattle.proto_wire.specs.Fields.{Field, sequence_at}
-use Rattle.proto_wire.specs.Written.{IsNumber, tag, varint_field, block_field, message_field, block_read, varints_read}
+use Rattle.proto_wire.specs.Written.{IsNumber, varint_field, block_field, message_field, block_read, varints_read}
 use Rattle.proto_wire.specs.Reading.{u64_of, embedded, is_member, run_so_far, first_fault_in}
-use Rattle.proto_wire.proofs.RoundTrip.{groups-few}
 use Rattle.proto_wire.proofs.ReadingLemmas.{u64_of-push}
 use Rattle.proto_wire.proofs.OneofLemmas.{last_member-push}
-use Rattle.proto_wire.proofs.FieldTrip.{Spells-append, Spells-varint, Spells-message, Spells-whole, varint_field-few, block_field-few}
+use Rattle.proto_wire.proofs.FieldTrip.{Spells-append, Spells-varint, Spells-message, Spells-whole, varint_field-few, block_field-few, message_field-few}
 use Rattle.values.specs.declared.entry.Point.{Point}
 use Rattle.values.specs.declared.entry.Body.{Body}
 use Rattle.values.specs.declared.entry.Body.TheVariants.{Noop, Ask, Members}
@@ -136,9 +134,6 @@ entry-few term (Members margin voters) sound fits =
     let c = varint_field 7 margin in
     omega (arith, length-append (varint_field 1 term) (a ++ b ++ c), length-append (a ++ b) c, length-append a b, varint_field-few 1 term, varint_field-few 2 2, varint_field-few 7 margin, block_field-few 6 (id_bytes voters), length-id_bytes voters, sound.at_most)
 
-message-few : (number : ℕ) (bytes : List ℕ) → length (message_field number bytes) ≤ 20 + length bytes
-message-few number bytes = omega (arith, length-append (tag number 2 ++ varint (length bytes)) bytes, length-append (tag number 2) (varint (length bytes)), groups-few 9 (8 * number + 2), groups-few 9 (length bytes))
-
 -- what an append's entries leave of what stands before them: their bytes stand under the number of the list
 abbrev after_entries : List LogEntry → Known → Known
 after_entries [] x = x
@@ -179,7 +174,7 @@ entries-few : (entries : List LogEntry) → AllByRecursion IsEntryInRange entrie
 entries-few [] range fits = omega arith
 entries-few (e ∷ entries) range fits =
     let item = varint_field 1 e.term ++ body_fields e.body in
-    omega (arith, ap length (flat_map-cons (λ (g : LogEntry). message_field 3 (entry_fields g)) e entries), length-append (message_field 3 item) (entries_field entries), message-few 3 item, entry-few e.term e.body range.0.1 fits.0, entries-few entries range.1 fits.1)
+    omega (arith, ap length (flat_map-cons (λ (g : LogEntry). message_field 3 (entry_fields g)) e entries), length-append (message_field 3 item) (entries_field entries), message_field-few 3 item, entry-few e.term e.body range.0.1 fits.0, entries-few entries range.1 fits.1)
 
 -- ---- rows
 
@@ -293,7 +288,7 @@ rows-again (row ∷ rows) range = ap (λ (r : Row). r ∷ map row_of (map row_kn
 rows-few : (rows : List Row) → AllByRecursion IsRowInRange rows → AllByRecursion FitsRow rows → length (rows_field rows) ≤ 500 * length rows
 rows-few [] range fits = omega arith
 rows-few (row ∷ rows) range fits =
-    omega (arith, ap length (flat_map-cons (λ (g : Row). message_field 10 (row_fields g)) row rows), length-append (message_field 10 (row_fields row)) (rows_field rows), message-few 10 (row_fields row), row-few row range.0 fits.0, rows-few rows range.1 fits.1)
+    omega (arith, ap length (flat_map-cons (λ (g : Row). message_field 10 (row_fields g)) row rows), length-append (message_field 10 (row_fields row)) (rows_field rows), message_field-few 10 (row_fields row), row-few row range.0 fits.0, rows-few rows range.1 fits.1)
 
 -- ---- the whole message
 

@@ -2,7 +2,6 @@ mod Examples
 mod Again
 mod KnownLemmas
 mod ListLemmas
-mod Loops
 mod MemberLemmas
 mod PeerLemmas
 mod RuleLemmas

@@ -1,58 +1,23 @@
 -- Who runs goes on being in rising order and among those that were started.
-use Rattle.std.proofs.Common.{if◌then◌else◌, ◌≡◌, ◌≢◌, ◌∙◌, sym, ap, subst, refl, ℕ, suc, ◌+◌, ◌<◌, ◌≤◌, ◌||◌, eqb, ltb, Bool, true, false, not, nat_lt, List, [], ◌∷◌, ◌++◌, length, filter, inl, inr, arith, length-append}
-use Rattle.std.specs.Prelude.{All}
+use Rattle.std.proofs.Common.{if◌then◌else◌, ◌≡◌, ◌≢◌, ◌∙◌, sym, ap, subst, refl, ℕ, suc, ◌+◌, ◌<◌, ◌≤◌, ◌||◌, eqb, ltb, Bool, true, false, nat_lt, List, [], ◌∷◌, ◌++◌, length, filter, arith, length-append}
 use Rattle.std.specs.List.{AllByRecursion, position_or_len, insert}
-use Rattle.std.proofs.lemmas.Bool.{cases_Bool, cond_both, cond-true, cond-false, eqb-false, ltb-true, ltb-false, not_from_true, not_from_false}
-use Rattle.std.proofs.lemmas.List.Elements.{All-cons, All-head, All-tail, All-filter}
+use Rattle.std.proofs.lemmas.Bool.{cond_both, eqb-false, ltb-true, ltb-false}
+use Rattle.std.proofs.lemmas.List.Elements.{All-filter}
 use Rattle.std.proofs.lemmas.List.Folds.{list_any-append}
 use Rattle.values.specs.Rising.{Rising}
 use Rattle.values.specs.declared.limits.TheConstants.{MAX_REPLICAS}
 use Rattle.values.proofs.RisingLists.{rising_from_increasing, increasing_from_rising}
 use Rattle.group_quorum.specs.Voters.{insert_rising, is_in, IsId}
+use Rattle.group_quorum.proofs.Inserted.{insert-rising, insert_length, insert_all}
 use Rattle.group_world.specs.Roster.{IsRoster}
 
 -- ---- an id at its place among rising ones
-
--- the first place of an id above k
-abbrev above : List ℕ → ℕ → ℕ
-above ids k = position_or_len (λ v. nat_lt k v) ids
-
-one_more : (n : ℕ) → 1 + n ≡ suc n
-one_more n = omega arith
-
-pub insert-rising : (ids : List ℕ) (k : ℕ) → insert_rising k ids ≡ insert ids (above ids k) k
-insert-rising [] k = refl
-insert-rising (v ∷ ids) k = elim (cases_Bool (nat_lt k v)) [
-  | inl lower ↦
-      let at : above (v ∷ ids) k ≡ 0 = cond-false (not (nat_lt k v)) (1 + above ids k) 0 (not_from_true (nat_lt k v) lower) in
-      cond-true (nat_lt k v) (k ∷ v ∷ ids) (v ∷ insert_rising k ids) lower ∙ ap (λ n. insert (v ∷ ids) n k) (sym at)
-  | inr higher ↦
-      let at : above (v ∷ ids) k ≡ suc (above ids k) = cond-true (not (nat_lt k v)) (1 + above ids k) 0 (not_from_false (nat_lt k v) higher) ∙ one_more (above ids k) in
-      cond-false (nat_lt k v) (k ∷ v ∷ ids) (v ∷ insert_rising k ids) higher
-      ∙ (ap (λ vs. v ∷ vs) (insert-rising ids k) ∙ ap (λ n. insert (v ∷ ids) n k) (sym at))
-]
-
-pub place-within : (k : ℕ) (ids : List ℕ) → above ids k ≤ length ids
-place-within k [] = omega arith
-place-within k (x ∷ xs) =
-    let rest : above xs k ≤ length xs = place-within k xs in
-    cond_both (not (nat_lt k x)) (1 + above xs k) 0 (λ n. n ≤ suc (length xs)) (λ t. omega arith) (λ f. omega arith)
-
-insert_all : (P : ℕ → Type 0) (w : ℕ) (xs : List ℕ) → P w → All P xs → All P (insert_rising w xs)
-insert_all P w [] h all = All-cons P w [] h all
-insert_all P w (x ∷ xs) h all = cond_both (ltb w x) (w ∷ x ∷ xs) (x ∷ insert_rising w xs) (All P)
-    (λ e. All-cons P w (x ∷ xs) h all)
-    (λ e. All-cons P x (insert_rising w xs) (All-head P x xs all) (insert_all P w xs h (All-tail P x xs all)))
 
 insert_each : (P : ℕ → Type 0) (w : ℕ) (xs : List ℕ) → P w → AllByRecursion P xs → AllByRecursion P (insert_rising w xs)
 insert_each P w [] h all = (h, tt)
 insert_each P w (x ∷ xs) h (at, all) = cond_both (ltb w x) (w ∷ x ∷ xs) (x ∷ insert_rising w xs) (AllByRecursion P)
     (λ e. (h, (at, all)))
     (λ e. (at, insert_each P w xs h all))
-
-insert_length : (w : ℕ) (xs : List ℕ) → length (insert_rising w xs) ≡ 1 + length xs
-insert_length w [] = refl
-insert_length w (x ∷ xs) = cond_both (ltb w x) (w ∷ x ∷ xs) (x ∷ insert_rising w xs) (λ ys. length ys ≡ 1 + length (x ∷ xs)) (λ e. omega arith) (λ e. omega (arith, insert_length w xs))
 
 or_swap : (a b c : Bool) → (a || (b || c)) ≡ (b || (a || c))
 or_swap true true c = refl

@@ -1,8 +1,8 @@
 -- What is read of a record can be played.
-use Rattle.std.proofs.Common.{refl, sym, ap, subst, ◌≡◌, ℕ, ◌≤◌, Bool, true, false, List, [], ◌∷◌, length, drop, Option, Some, None, Result, Ok, Err, arith}
-use Rattle.std.specs.Prelude.{if◌then◌else◌, nat_le, bytes_eq, codes, cond, not, ◌&&◌, IsOk}
+use Rattle.std.proofs.Common.{refl, sym, ap, subst, ◌≡◌, ℕ, ◌≤◌, Bool, true, false, List, [], ◌∷◌, length, drop, Option, Some, None, Result, Ok, Err}
+use Rattle.std.specs.Prelude.{if◌then◌else◌, nat_le, bytes_eq, codes, ◌&&◌, IsOk}
 use Rattle.std.specs.List.{AllByRecursion}
-use Rattle.std.proofs.lemmas.Bool.{and_parts, cond_both, leb-true}
+use Rattle.std.proofs.lemmas.Bool.{and_parts, cond_both}
 use Rattle.group_quorum.specs.Voters.{IsId, conf_of, fault_of}
 use Rattle.group_quorum.specs.declared.ConfigFault.{ConfigFault}
 use Rattle.group_quorum.specs.declared.TheConstants.{MAX_ID, MAX_MARGIN}
@@ -14,9 +14,10 @@ use Rattle.values.specs.declared.ids.ClientId.{ClientId}
 use Rattle.values.specs.declared.limits.TheConstants.{MAX_SETTLED, MOST_ROWS}
 use Rattle.values.specs.declared.want.Want.TheVariants as want
 use Rattle.record_cutting.specs.Lines.{Record}
-use Rattle.schedule_model.specs.Reading.{RecordFault, fault, ◌>>=◌, field, number_of, is_number, value_of_digits, client_at, hex_at, number_at, pin_at, replica_at, replicas_from, request_at, max_u32, max_u64}
+use Rattle.schedule_model.specs.Reading.{RecordFault, fault, ◌>>=◌, field, client_at, hex_at, number_at, pin_at, replica_at, replicas_from, request_at, max_u32, max_u64}
 use Rattle.schedule_model.specs.Records.{Word, event_of, some_event, event_at, word_of, has_fields, is_remark, placed, fields_as, begin_or, cause_of}
 use Rattle.schedule_model.specs.Records as word
+use Rattle.schedule_model.proofs.Reading.{number_of-range}
 use Rattle.group_world.specs.Playable.{IsPlayable}
 
 -- an event as it is read, of a schedule that is driven or not: a settle and what is driven are played as others
@@ -35,25 +36,11 @@ bound (Err e) f Q b h is = absurd (let z : Err e ≡ Ok b = is in cc)
 ends : (P : Event → Type 0) (a e : Event) → P a → (let read : Result Event RecordFault = Ok a in read ≡ Ok e) → P e
 ends P a e h is = let same : a ≡ e = cc in subst P same h
 
-number_in : (text : List ℕ) (k low high n : ℕ) → number_of text k low high ≡ Ok n → (low ≤ n) × (n ≤ high)
-number_in text k low high n is = by_number (is_number text) is
-  where
-    by_range : (b : Bool) → (nat_le low (value_of_digits text) && nat_le (value_of_digits text) high) ≡ b → cond b (Ok (value_of_digits text)) (fault {T = ℕ} cause.Range k) ≡ Ok n → (low ≤ n) × (n ≤ high)
-    by_range true holds is =
-        let p = and_parts (nat_le low (value_of_digits text)) (nat_le (value_of_digits text) high) holds in
-        let same : value_of_digits text ≡ n = cc in
-        (omega (arith, leb-true low (value_of_digits text) p.0, same), omega (arith, leb-true (value_of_digits text) high p.1, same))
-    by_range false holds is = absurd (let e : fault {T = ℕ} cause.Range k ≡ Ok n = is in cc)
-
-    by_number : (b : Bool) → cond (not b) (fault {T = ℕ} cause.Number k) (cond (nat_le low (value_of_digits text) && nat_le (value_of_digits text) high) (Ok (value_of_digits text)) (fault {T = ℕ} cause.Range k)) ≡ Ok n → (low ≤ n) × (n ≤ high)
-    by_number true is = by_range (nat_le low (value_of_digits text) && nat_le (value_of_digits text) high) refl is
-    by_number false is = absurd (let e : fault {T = ℕ} cause.Number k ≡ Ok n = is in cc)
-
 -- ---- a record of each word
 
 module _ (driven : Bool) (fields : Record) (e : Event) where
   alone : (make : ℕ → Event) → ((r : ℕ) → IsId r → IsRead driven true (make r)) → word.of_replica make fields ≡ Ok e → IsRead driven true e
-  alone make fine is = bound (replica_at fields 2) (λ r. Ok (make r)) (IsRead driven true) e (λ r one is. ends (IsRead driven true) (make r) e (fine r (number_in (field fields 2) 2 1 MAX_ID r one)) is) is
+  alone make fine is = bound (replica_at fields 2) (λ r. Ok (make r)) (IsRead driven true) e (λ r one is. ends (IsRead driven true) (make r) e (fine r (number_of-range (field fields 2) 2 1 MAX_ID r one)) is) is
 
   numbered : (make : ℕ → Event) (low high : ℕ) → ((k : ℕ) → IsRead driven true (make k)) → word.of_number make low high fields ≡ Ok e → IsRead driven true e
   numbered make low high fine is = bound (number_at fields 2 low high) (λ k. Ok (make k)) (IsRead driven true) e (λ k one is. ends (IsRead driven true) (make k) e (fine k) is) is
@@ -61,13 +48,13 @@ module _ (driven : Bool) (fields : Record) (e : Event) where
   two : (make : ℕ → ℕ → Event) → ((r x : ℕ) → IsId x → IsRead driven true (make r x)) → word.of_two make fields ≡ Ok e → IsRead driven true e
   two make fine is =
       bound (replica_at fields 2) (λ r. replica_at fields 3 >>= (λ x. Ok (make r x))) (IsRead driven true) e
-      (λ r one is. bound (replica_at fields 3) (λ x. Ok (make r x)) (IsRead driven true) e (λ x other is. ends (IsRead driven true) (make r x) e (fine r x (number_in (field fields 3) 3 1 MAX_ID x other)) is) is)
+      (λ r one is. bound (replica_at fields 3) (λ x. Ok (make r x)) (IsRead driven true) e (λ x other is. ends (IsRead driven true) (make r x) e (fine r x (number_of-range (field fields 3) 3 1 MAX_ID x other)) is) is)
       is
 
   with_number : (make : ℕ → ℕ → Event) (high : ℕ) → ((r k : ℕ) → k ≤ high → IsRead driven true (make r k)) → word.of_replica_and make high fields ≡ Ok e → IsRead driven true e
   with_number make high fine is =
       bound (replica_at fields 2) (λ r. number_at fields 3 0 high >>= (λ k. Ok (make r k))) (IsRead driven true) e
-      (λ r one is. bound (number_at fields 3 0 high) (λ k. Ok (make r k)) (IsRead driven true) e (λ k other is. ends (IsRead driven true) (make r k) e (fine r k (number_in (field fields 3) 3 0 high k other).1) is) is)
+      (λ r one is. bound (number_at fields 3 0 high) (λ k. Ok (make r k)) (IsRead driven true) e (λ k other is. ends (IsRead driven true) (make r k) e (fine r k (number_of-range (field fields 3) 3 0 high k other).1) is) is)
       is
 
   asked : word.ask_of fields ≡ Ok e → IsRead driven true e
@@ -122,8 +109,8 @@ module _ (driven : Bool) (fields : Record) (e : Event) where
       (λ margin one is. bound (number_at fields 3 1 MOST_ROWS) (λ limit. replicas_from 4 (drop 3 fields) >>= (λ voters. begin_or (fault_of margin voters) margin limit voters)) (IsRead driven false) e
       (λ limit other is. bound (replicas_from 4 (drop 3 fields)) (λ voters. begin_or (fault_of margin voters) margin limit voters) (IsRead driven false) e
       (λ voters all is.
-      let to = number_in (field fields 2) 2 0 MAX_MARGIN margin one in
-      let range = number_in (field fields 3) 3 1 MOST_ROWS limit other in
+      let to = number_of-range (field fields 2) 2 0 MAX_MARGIN margin one in
+      let range = number_of-range (field fields 3) 3 1 MOST_ROWS limit other in
       setup margin limit voters (fault_of margin voters) refl to.1 range.0 range.1 is) is) is)
       is
 

@@ -5,5 +5,4 @@ mod Marks
 mod Walks
 mod Whole
 mod Taken
-mod Loops
 mod Ranged

@@ -1,6 +1,6 @@
 -- Changes of the members, as the model's.
-use Rattle.std.proofs.Common.{◌≡◌, ℕ, zero, suc, ◌+◌, ◌<◌, ◌≤◌, Bool, true, false, cond, ◌&&◌, ◌||◌, ◌==◌, nat_le, Option, Some, None, Ok, Err, List, [], ◌∷◌, ◌++◌, length, take, refl, sym, ap, subst, ◌∙◌, arith}
-use Rattle.std.specs.Prelude.{not, slice_get, option_map, unwrap_or, nat_lt}
+use Rattle.std.proofs.Common.{◌≡◌, ℕ, ◌+◌, ◌<◌, ◌≤◌, Bool, true, false, cond, ◌&&◌, ◌||◌, ◌==◌, nat_le, Option, Some, None, Ok, Err, List, [], ◌∷◌, ◌++◌, length, take, refl, sym, ap, subst, ◌∙◌, arith}
+use Rattle.std.specs.Prelude.{not, nat_lt}
 use Rattle.std.proofs.lemmas.Bool.{cond_both, eqb-false, leb-false}
 use Rattle.std.proofs.lemmas.List.{length-take-le}
 use Rattle.std.proofs.lemmas.List.Sums.{length-filter, count_by-le-length}
@@ -9,13 +9,13 @@ use Rattle.values.specs.declared.batch.Refusal.{Refusal}
 use Rattle.values.specs.declared.batch.Refusal.TheVariants.{NotLeader}
 use Rattle.values.specs.declared.entry.Body.TheVariants.{Members}
 use Rattle.values.specs.declared.entry.Hash.{Hash}
-use Rattle.values.specs.declared.entry.LogEntry.{LogEntry}
 use Rattle.values.specs.declared.limits.TheConstants.{TOP}
 use Rattle.values.specs.declared.peer.PeerMsg.TheVariants.{Part}
 use Rattle.values.specs.declared.peer.TablePart.{TablePart}
 use Rattle.group_quorum.specs.Conf.{Conf}
 use Rattle.group_quorum.specs.Voters.{is_in, insert_rising}
 use Rattle.group_quorum.specs.declared.TheConstants.{MAX_VOTERS}
+use Rattle.group_quorum.proofs.Inserted.{insert_length}
 use Rattle.member_rules.specs.declared.fault.MemberFault.{MemberFault}
 use Rattle.member_rules.specs.declared.fault.MemberFault.TheVariants.{LogFull, ChangePending, AlreadyVoter, TooMany, NotCaughtUp, NoLink}
 use Rattle.member_rules.specs.declared.standing.Standing.{Standing}
@@ -33,6 +33,7 @@ use Rattle.replica_model.specs.Replica as model
 use Rattle.replica_model.specs.Call.{Call, still, refuses, send_to, empty_batch}
 use Rattle.replica_model.specs.Raise.{pushed, raise}
 use Rattle.replica_model.specs.Tables.{IsTruePart, part_of, part_message, named_by}
+use Rattle.replica_model.proofs.Paths.{last_term-take}
 use Rattle.replica_log.specs.declared.configs.Configs.{Configs}
 use Rattle.replica_log.specs.Window.{Window, IsOrdered, last_index}
 use Rattle.replica_log.specs.Models.{StandsFor as LogStandsFor, AreConfigs, kept_by}
@@ -56,18 +57,6 @@ use Rattle.replica_core.proofs.Sounds.{led-sound, sendings-put}
 use Rattle.replica_core.proofs.Wins.{pushed-stands, everyone-does}
 
 -- ---- a table begins to be sent
-
-get-take : (k : ℕ) (p : Path) → suc k ≤ length p → slice_get (take (suc k) p) k ≡ slice_get p k
-get-take k [] le = refl
-get-take zero (e ∷ p) le = refl
-get-take (suc k) (e ∷ p) le = get-take k p (omega (arith, le))
-
-term-take : (i : ℕ) (p : Path) → i ≤ length p → last_term (take i p) ≡ term_at p i
-term-take i p le = ap (λ n. term_at (take i p) n) (length-take-le i p le) ∙ by i le
-  where
-    by : (k : ℕ) → k ≤ length p → term_at (take k p) k ≡ term_at p k
-    by zero le = refl
-    by (suc k) le = ap (λ (o : Option LogEntry). unwrap_or (option_map (λ e. e.term) o) 0) (get-take k p le)
 
 pub kept-is : {A : Type 0} (b : Bool) (x y : A) → Some x ≡ cond b (Some y) None → x ≡ y
 kept-is true x y is = cc
@@ -93,7 +82,7 @@ begun-as logs h s st o index is hash hash-is term term-is configs are =
         point =
             ap (λ n. record { index = n; hash = hash }) (at ∙ sym long)
             ∙ ap (λ x. record { index = length (take s.committed s.path); hash = x }) (hash-at ∙ ap (λ n. chain sha_link (take n s.path)) at);
-        last_term = term-at ∙ (ap (term_at s.path) at ∙ sym (term-take s.committed s.path low));
+        last_term = term-at ∙ (ap (term_at s.path) at ∙ sym (last_term-take s.committed s.path low));
         conf = are.newest ∙ ap (λ n. conf s.first (take n s.path)) at;
         conf_index = are.newest_index ∙ ap (λ n. conf_index (take n s.path)) at;
         table = st.table;
@@ -235,14 +224,9 @@ few-learners n x y first second is = by first.0 second.0 (nat_le MAX_LEARNERS n)
 pub join-few : (k : Standing) (id : ℕ) (linked : Bool) (n : ℕ) (x : Unit {0}) → join_of k id linked n ≡ Ok x → n < MAX_LEARNERS
 join-few k id linked n x is = few-learners n tt x (is_in k.newest.voters id, AlreadyVoter id) (not linked, NoLink id) is
 
-insert-long : (v : ℕ) (ids : List ℕ) → length (insert_rising v ids) ≡ length ids + 1
-insert-long v [] = refl
-insert-long v (w ∷ ids) =
-    cond_both (nat_lt v w) (v ∷ w ∷ ids) (w ∷ insert_rising v ids) (λ ys. length ys ≡ length (w ∷ ids) + 1) (λ t. omega arith) (λ f. omega (arith, insert-long v ids))
-
 with-long : (v : ℕ) (ids : List ℕ) → length (with_id v ids) ≤ length ids + 1
 with-long v ids =
-    cond_both (is_in ids v) ids (insert_rising v ids) (λ ys. length ys ≤ length ids + 1) (λ t. omega arith) (λ f. let e = insert-long v ids in omega (arith, e))
+    cond_both (is_in ids v) ids (insert_rising v ids) (λ ys. length ys ≤ length ids + 1) (λ t. omega arith) (λ f. let e = insert_length v ids in omega (arith, e))
 
 module _ (h : Holder) (l : Leading) (is : h.role ≡ kept.Leader l) (v next : ℕ) (k : SentTable) (h' : Holder)
     (after : h' ≡ holder_leading h (λ x. with_learner x v next k)) where

@@ -1,9 +1,8 @@
 -- What a learner takes, what a leader sends of a table, changes of the members and clients' requests keep the ranges.
-use Rattle.std.proofs.Common.{◌≡◌, ℕ, ◌+◌, ◌≤◌, Bool, true, false, not, ◌&&◌, ◌||◌, ◌==◌, nat_eq, nat_le, Option, Some, None, Result, Ok, Err, List, [], ◌∷◌, length, All, refl, sym, ap, subst, ◌∙◌, arith}
-use Rattle.std.specs.Prelude.{IfSome, if◌then◌else◌}
-use Rattle.std.specs.Option.{option_or}
+use Rattle.std.proofs.Common.{◌≡◌, ℕ, ◌+◌, ◌≤◌, Bool, true, false, not, ◌&&◌, ◌||◌, ◌==◌, nat_eq, nat_le, Option, Some, None, Result, Ok, Err, List, [], ◌∷◌, All, refl, sym, ap, subst, ◌∙◌, arith}
+use Rattle.std.specs.Prelude.{IfSome}
 use Rattle.std.specs.Cmp.Lexicographic.{pointwise}
-use Rattle.std.proofs.lemmas.Bool.{cond_both, and_parts, and_from, eq-eqb, leb-true}
+use Rattle.std.proofs.lemmas.Bool.{cond_both, and_from, eq-eqb}
 use Rattle.std.proofs.lemmas.List.Elements.{All-nil, All-filter}
 use Rattle.values.specs.declared.batch.Batch.{Batch}
 use Rattle.values.specs.declared.entry.Body.TheVariants.{Ask}
@@ -13,10 +12,9 @@ use Rattle.values.specs.declared.ids.ClientId.{ClientId}
 use Rattle.values.specs.declared.message.Answer.{Answer}
 use Rattle.values.specs.declared.message.Answer.TheVariants.{NotLeader, Busy, Malformed, Invalid, Halted}
 use Rattle.values.specs.declared.message.Part.{Part as RequestPart}
-use Rattle.values.specs.declared.message.Part.TheVariants.{Nothing, Pin}
+use Rattle.values.specs.declared.message.Part.TheVariants.{Nothing}
 use Rattle.values.specs.declared.limits.TheConstants.{TOP}
 use Rattle.values.specs.declared.message.Request.{Request}
-use Rattle.values.specs.declared.message.Request.TheVariants.{Backup, Restore, Delete, Expose}
 use Rattle.values.specs.declared.peer.PeerMsg.TheVariants.{PartTaken}
 use Rattle.values.specs.declared.peer.TablePart.{TablePart}
 use Rattle.values.specs.Sizes.{IsValid}
@@ -24,8 +22,9 @@ use Rattle.client_msgs.specs.declared.fault.RequestFault.{RequestFault}
 use Rattle.client_msgs.specs.declared.fault.RequestFault.TheVariants as faults
 use Rattle.client_msgs.specs.Canonical.{canonical_request}
 use Rattle.client_msgs.specs.Reading.{request_in, request_of, if_sized, request_from}
-use Rattle.client_msgs.specs.Sizes.{FitsRequest, size_fault, secret_fault, pin_fault, tries_fault}
+use Rattle.client_msgs.specs.Sizes.{FitsRequest, size_fault}
 use Rattle.client_msgs.specs.Strict.{is_written_as, is_canonical}
+use Rattle.client_msgs.proofs.SizesLemmas.{size_fault-valid}
 use Rattle.proto_wire.specs.declared.field.WireFault.{WireFault}
 use Rattle.proto_wire.specs.Fields.{Field, sequence_at}
 use Rattle.proto_wire.specs.Reading.{last_member, first_fault}
@@ -159,30 +158,8 @@ same-bytes : (xs : List ℕ) → pointwise nat_eq xs xs ≡ true
 same-bytes [] = refl
 same-bytes (x ∷ xs) = and_from (nat_eq x x) (pointwise nat_eq xs xs) (eq-eqb x x refl) (same-bytes xs)
 
-or-none : {X : Type 0} (a b : Option X) → option_or a b ≡ None → (a ≡ None) × (b ≡ None)
-or-none None b is = (refl, is)
-or-none (Some x) b is = absurd (let e : Some x ≡ None = is in cc)
-
-pin-fits : (pin : Hash) → pin_fault pin ≡ None → length pin.0 ≡ 32
-pin-fits pin is = by (nat_le 32 (length pin.0) && nat_le (length pin.0) 32) refl is
-  where
-    by : (b : Bool) → (nat_le 32 (length pin.0) && nat_le (length pin.0) 32) ≡ b
-        → (let fault : Option (RequestPart × ℕ) = Some (Pin, length pin.0) in if b then None else fault) ≡ None → length pin.0 ≡ 32
-    by true e is =
-        let p = and_parts (nat_le 32 (length pin.0)) (nat_le (length pin.0) 32) e in
-        let low = leb-true 32 (length pin.0) p.0 in
-        let high = leb-true (length pin.0) 32 p.1 in
-        omega (arith, low, high)
-    by false e is = absurd (let fault : Option (RequestPart × ℕ) = Some (Pin, length pin.0) in let k : fault ≡ None = is in cc)
-
-fits : (request : Request) → size_fault request ≡ None → FitsRequest request
-fits (Backup secret pin tries) is = pin-fits pin (or-none (pin_fault pin) (tries_fault tries) (or-none (secret_fault secret) (option_or (pin_fault pin) (tries_fault tries)) is).1).0
-fits (Restore pin) is = pin-fits pin is
-fits Delete is = tt
-fits (Expose secret) is = tt
-
 sized-fits : (o : Option (RequestPart × ℕ)) (r request : Request) → size_fault r ≡ o → if_sized o r ≡ Ok request → FitsRequest request
-sized-fits None r request none is = let e : r ≡ request = cc in subst FitsRequest e (fits r none)
+sized-fits None r request none is = let e : r ≡ request = cc in subst FitsRequest e (size_fault-valid r none).1
 sized-fits (Some fault) r request some is = absurd (let e : Err (faults.Size fault.0 fault.1) ≡ Ok request = is in cc)
 
 read-fits : (fault : Option WireFault) (last : Option (ℕ × List Field)) (request : Request) → request_in fault last ≡ Ok request → FitsRequest request

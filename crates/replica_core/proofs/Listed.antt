@@ -1,17 +1,14 @@
 -- Lists of values under ids, and where a value stands in them.
-use Rattle.std.proofs.Common.{◌≡◌, ℕ, zero, suc, ◌+◌, ◌<◌, ◌≤◌, Bool, true, false, cond, not, ◌==◌, nat_lt, nat_le, inl, inr, Option, Some, None, List, [], ◌∷◌, ◌++◌, length, take, get_or, map, fold, reverse, find, option_map, slice_get, All, refl, sym, ap, subst, ◌∙◌, arith, append_assoc}
+use Rattle.std.proofs.Common.{◌≡◌, ℕ, zero, suc, ◌+◌, ◌<◌, ◌≤◌, Bool, true, false, cond, not, ◌==◌, nat_lt, nat_le, inl, inr, Option, Some, None, List, [], ◌∷◌, ◌++◌, length, take, get_or, map, find, option_map, slice_get, All, refl, sym, ap, subst, ◌∙◌, arith, append_assoc}
 use Rattle.std.proofs.Math.ListN.{set}
 use Rattle.std.specs.List.{AllByRecursion}
 use Rattle.values.specs.Rising.{Rising}
 use Rattle.std.proofs.lemmas.Option.{slice_get_read, get_or_from_slice_get}
-use Rattle.std.proofs.lemmas.List.{reverse-append, take_more, map-append}
-use Rattle.std.proofs.lemmas.List.Sums.{fold_push}
+use Rattle.std.proofs.lemmas.List.{take_more, map-append}
 use Rattle.std.proofs.lemmas.List.Elements.{All-cons, All-head, All-tail}
 use Rattle.std.proofs.lemmas.Bool.{cases_Bool, cases_eq, cond_both, ltb-true, ltb-false, cond-true, cond-false, leb-true, leb-false, eq-eqb, ne_eqb, eqb-true, eqb-false, le-ltb, lt-ltb, not_from_true, not_from_false}
 use Rattle.std.specs.Prelude.{MatchOption}
 use Rattle.std.specs.List.{position_or_len, insert}
-use Rattle.group_quorum.specs.Voters.{insert_rising}
-use Rattle.replica_model.specs.Peers.{with_id, united}
 use Rattle.replica_model.specs.Keyed.{value_at, put, without}
 use Rattle.table_transfer.specs.declared.sending.Sent.{Sent}
 use Rattle.table_transfer.specs.declared.sending.Sent.TheVariants.{Next, Done, Ignored}
@@ -203,35 +200,6 @@ module _ {A : Type 0} where
   rising-without (y ∷ ys) k (above, rising) =
       cond_both (not (y.0 == k)) (y ∷ without ys k) (without ys k) (λ zs. Rising (map (λ x. x.0) zs))
       (λ t. (keys-without y.0 ys k above, rising-without ys k rising)) (λ f. rising-without ys k rising)
-
--- the first place of an id above k
-abbrev pub above : List ℕ → ℕ → ℕ
-above ids k = position_or_len (λ v. nat_lt k v) ids
-
-pub insert-rising : (ids : List ℕ) (k : ℕ) → insert_rising k ids ≡ insert ids (above ids k) k
-insert-rising [] k = refl
-insert-rising (v ∷ ids) k = elim (cases_Bool (nat_lt k v)) [
-  | inl lower ↦
-      let at : above (v ∷ ids) k ≡ 0 = cond-false (not (nat_lt k v)) (1 + above ids k) 0 (not_from_true (nat_lt k v) lower) in
-      cond-true (nat_lt k v) (k ∷ v ∷ ids) (v ∷ insert_rising k ids) lower ∙ ap (λ n. insert (v ∷ ids) n k) (sym at)
-  | inr higher ↦
-      let at : above (v ∷ ids) k ≡ suc (above ids k) = cond-true (not (nat_lt k v)) (1 + above ids k) 0 (not_from_false (nat_lt k v) higher) ∙ one_more (above ids k) in
-      cond-false (nat_lt k v) (k ∷ v ∷ ids) (v ∷ insert_rising k ids) higher
-      ∙ (ap (λ vs. v ∷ vs) (insert-rising ids k) ∙ ap (λ n. insert (v ∷ ids) n k) (sym at))
-]
-
--- ids put at their places from the last on are united
-pub united-fold : (more ids : List ℕ) → fold (λ vs v. with_id v vs) ids (reverse more) ≡ united more ids
-united-fold [] ids = refl
-united-fold (v ∷ more) ids =
-    ap (fold (λ vs w. with_id w vs) ids) (reverse-append (v ∷ []) more)
-    ∙ (fold_push (λ vs w. with_id w vs) ids (reverse more) v ∙ ap (with_id v) (united-fold more ids))
-
-pub place-within : {X : Type 0} (p : X → Bool) (xs : List X) → position_or_len p xs ≤ length xs
-place-within p [] = omega arith
-place-within p (x ∷ xs) =
-    let rest : position_or_len p xs ≤ length xs = place-within p xs in
-    cond_both (not (p x)) (1 + position_or_len p xs) 0 (λ n. n ≤ suc (length xs)) (λ t. omega arith) (λ f. omega arith)
 
 -- what is made of the first elements, and of one more, behind others
 pub map-more : {A B : Type 0} (f : A → B) (xs : List A) (i : ℕ) (d : A) (ys : List B) → i < length xs

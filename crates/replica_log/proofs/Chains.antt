@@ -11,6 +11,7 @@ use Rattle.values.specs.declared.entry.Point.{Point}
 use Rattle.group_quorum.specs.Conf.{Conf}
 use Rattle.replica_model.specs.Path.{Path, Link, chain_from}
 use Rattle.replica_model.specs.Configs.{is_members, changed_by, conf, conf_index_from}
+use Rattle.replica_model.proofs.Paths.{changed_plain}
 use Rattle.replica_log.specs.declared.chained.Chained.{Chained}
 use Rattle.replica_log.specs.Window.{Window, Fits, summed, dropped_below, last_point, base_index, last_index, upto, term_from, entry_at, conf_at, conf_index_at}
 use Rattle.replica_log.specs.Chain.{conf_index_after, chained, chained_from, chained_at}
@@ -165,11 +166,6 @@ conf_index_from-still j k p le low = elim (conf_index_from-cases j k p le) [
   | inl still ↦ still
   | inr above ↦ absurd (omega (arith, low, above))
 ]
-
-changed_plain : (c : Conf) (b : Body) → is_members b ≡ false → changed_by c b ≡ c
-changed_plain c Noop h = refl
-changed_plain c (Ask client number request) h = refl
-changed_plain c (Members margin voters) h = absurd (let no : true ≡ false = h in cc)
 
 changed_members : (c d : Conf) (b : Body) → is_members b ≡ true → changed_by c b ≡ changed_by d b
 changed_members c d Noop h = absurd (let no : false ≡ true = h in cc)

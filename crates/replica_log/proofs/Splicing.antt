@@ -2,6 +2,7 @@
 use Rattle.std.proofs.Common.{◌≡◌, ℕ, zero, suc, ◌+◌, ◌-◌, ◌<◌, ◌≤◌, List, [], ◌∷◌, ◌++◌, length, map, take, drop, refl, sym, ap, ◌∙◌, subst, length-append, length-drop, arith}
 use Rattle.std.specs.List.{AllByRecursion}
 use Rattle.std.proofs.lemmas.List.{length-take-le, drop-drop}
+use Rattle.std.proofs.lemmas.List.Elements.{All-append, All-from_recursion, recursion_from_All}
 use Rattle.values.specs.declared.entry.Hash.{Hash}
 use Rattle.values.specs.declared.limits.TheConstants.{TOP}
 use Rattle.group_quorum.specs.Conf.{Conf}
@@ -17,10 +18,6 @@ use Rattle.replica_log.specs.Chain.{chained_from}
 use Rattle.replica_log.specs.Stored.{window_in, IsStored}
 use Rattle.replica_log.proofs.Chains.{entries-chained, take-chained, chained-append}
 use Rattle.replica_log.proofs.Standing.{take_parts}
-
-all-append : {A : Type 0} (P : A → Type 0) (xs ys : List A) → AllByRecursion P xs → AllByRecursion P ys → AllByRecursion P (xs ++ ys)
-all-append P [] ys all more = more
-all-append P (x ∷ xs) ys all more = (all.0, all-append P xs ys all.1 more)
 
 all-take : {A : Type 0} (P : A → Type 0) (n : ℕ) (xs : List A) → AllByRecursion P xs → AllByRecursion P (take n xs)
 all-take P zero xs all = tt
@@ -74,7 +71,7 @@ stored_again a s i p more promised last fits room made =
     record {
       entries = entries;
       chained = is ∙ ap (kept_entries sha_link w) (sym entries);
-      fit = subst (AllByRecursion Fits) (sym entries) (all-append Fits (upto w i) p (all-take Fits (i - base_index w) w.entries s.fit) fits);
+      fit = subst (AllByRecursion Fits) (sym entries) (recursion_from_All Fits (upto w i ++ p) (All-append Fits (upto w i) p (All-from_recursion Fits (upto w i) (all-take Fits (i - base_index w) w.entries s.fit)) (All-from_recursion Fits p fits)));
       ordered = record {
         committed = s.ordered.committed;
         promised = s.ordered.promised;

@@ -1,5 +1,5 @@
 -- What a learner takes of a table has the path that the map has at its point.
-use Rattle.std.proofs.Common.{◌≡◌, ℕ, ◌+◌, ◌<◌, Bool, true, false, cond, List, [], ◌∷◌, length, IsTrue, inl, inr, refl, sym, ap, subst, ◌∙◌, arith}
+use Rattle.std.proofs.Common.{◌≡◌, ℕ, ◌+◌, ◌<◌, Bool, true, false, cond, List, length, IsTrue, inl, inr, refl, sym, ap, subst, ◌∙◌, arith}
 use Rattle.std.specs.Prelude.{◌⊎◌, ◌==◌, ◌&&◌, bytes_eq}
 use Rattle.std.proofs.lemmas.Bool.{eqb-true, and_parts}
 use Rattle.std.proofs.lemmas.Slice.Eq.{bytes_eq-Decides}
@@ -7,9 +7,10 @@ use Rattle.values.specs.declared.entry.Hash.{Hash}
 use Rattle.values.specs.declared.entry.Point.{Point}
 use Rattle.values.specs.declared.peer.TablePart.{TablePart}
 use Rattle.replica_model.specs.Linked.{sha_link}
-use Rattle.replica_model.specs.Path.{Path, end_point, same_hash, same_point}
+use Rattle.replica_model.specs.Path.{end_point, same_hash, same_point}
 use Rattle.replica_model.specs.Replica.{Named, Taking, Learner, nothing_named}
-use Rattle.replica_model.specs.Tables.{IsTruePart, rows_of, parts_of, part_of, point_taken, is_taken, taken_with}
+use Rattle.replica_model.specs.Tables.{IsTruePart, part_of, point_taken, is_taken, taken_with}
+use Rattle.replica_model.proofs.Parts.{one_part}
 use Rattle.table_transfer.specs.Taken.{GoesOn}
 use Rattle.replica_server.specs.Standing.{IsByMap}
 
@@ -24,11 +25,6 @@ one_point p q same =
     let index : p.index ≡ q.index = eqb-true p.index q.index parts.0 in
     let bytes : p.hash.0 ≡ q.hash.0 = (bytes_eq-Decides p.hash.0 q.hash.0).0 parts.1 in
     ap (λ (i : ℕ). record { index = i; hash = p.hash }) index ∙ ap (λ (h : List ℕ). record { index = q.index; hash = record { 0 = h } }) bytes
-
--- the table of an empty path has one part
-one_part : (n : Named) (path : Path) → n.path ≡ path → length path ≡ 0 → parts_of (rows_of n) ≡ 1
-one_part n [] e none = rw e refl
-one_part n (p ∷ ps) e none = absurd (cc)
 
 first_alone : (part : TablePart) (n : Named) → IsTruePart sha_link part n → length n.path ≡ 0 → part.part < 1
 first_alone part n h none = subst (λ k. part.part < k) (ap (λ p. p.parts) h.is_part ∙ one_part n n.path refl none) h.below

@@ -7,7 +7,7 @@ use Rattle.std.proofs.lemmas.List.{append_cancel_right}
 use Rattle.std.proofs.lemmas.List.Folds.{list_all-append}
 use Rattle.record_cutting.specs.Lines.{last_part, line_if_any, lines_of, whole_lines}
 use Rattle.record_stream.proofs.Cuts.{last_part-append, last_part-feed, whole_lines-append}
-use Rattle.record_stream.proofs.Lacking.{Lacks, first, later}
+use Rattle.record_stream.proofs.Lacking.{Lacks, last_part-lacks, whole_lines-lacks}
 use Rattle.trace_model.specs.Audit.{LineSays}
 use Rattle.trace_model.specs.TraceLines.{TraceLine, max_line}
 
@@ -45,26 +45,16 @@ says_nothing line none what (text, is, says) = absurd (no (sym none ∙ ap (list
     no e = absurd cc
 
 -- ---- lines of such bytes
-lacks_lines : (p xs : List ℕ) → Lacks 10 xs (length xs) → whole_lines p xs ≡ []
-unfolding whole_lines
-lacks_lines p [] h = refl
-lacks_lines p (b ∷ xs) h = rw (first 10 b xs (length xs) h) (lacks_lines (p ++ b ∷ []) xs (later 10 b xs (length xs) h))
-
-lacks_last : (p xs : List ℕ) → Lacks 10 xs (length xs) → last_part p xs ≡ p ++ xs
-unfolding last_part
-lacks_last p [] h = sym (append-nil p)
-lacks_last p (b ∷ xs) h = rw (first 10 b xs (length xs) h) (lacks_last (p ++ b ∷ []) xs (later 10 b xs (length xs) h) ∙ append_assoc p (b ∷ []) xs)
-
 feed_line : (p : List ℕ) → whole_lines p (10 ∷ []) ≡ (p ++ 10 ∷ []) ∷ []
 unfolding whole_lines
 feed_line p = refl
 
 -- bytes, and then some of a line
 pub kept_lines : (bytes xs : List ℕ) → Lacks 10 xs (length xs) → whole_lines [] (bytes ++ xs) ≡ whole_lines [] bytes
-kept_lines bytes xs h = whole_lines-append [] bytes xs ∙ ap (λ (ls : List (List ℕ)). whole_lines [] bytes ++ ls) (lacks_lines (last_part [] bytes) xs h) ∙ append-nil (whole_lines [] bytes)
+kept_lines bytes xs h = whole_lines-append [] bytes xs ∙ ap (λ (ls : List (List ℕ)). whole_lines [] bytes ++ ls) (whole_lines-lacks (last_part [] bytes) xs h) ∙ append-nil (whole_lines [] bytes)
 
 pub kept_last : (bytes xs : List ℕ) → Lacks 10 xs (length xs) → last_part [] (bytes ++ xs) ≡ last_part [] bytes ++ xs
-kept_last bytes xs h = last_part-append [] bytes xs ∙ lacks_last (last_part [] bytes) xs h
+kept_last bytes xs h = last_part-append [] bytes xs ∙ last_part-lacks (last_part [] bytes) xs h
 
 -- and then the end of a line
 pub ended_lines : (bytes xs : List ℕ) → Lacks 10 xs (length xs) → whole_lines [] (bytes ++ (xs ++ 10 ∷ [])) ≡ whole_lines [] bytes ++ ((last_part [] bytes ++ xs) ++ 10 ∷ []) ∷ []

@@ -1,32 +1,22 @@
 -- A begin that a line tells has a limit in range.
-use Rattle.std.proofs.Common.{◌≡◌, ℕ, ◌≤◌, Bool, true, false, List, length, Option, Some, None, Result, Ok, Err, refl, subst, arith}
-use Rattle.std.specs.Prelude.{◌&&◌, nat_le, not, if◌then◌else◌, decimal, map}
+use Rattle.std.proofs.Common.{◌≡◌, ℕ, ◌≤◌, Bool, true, false, List, length, Option, Some, None, Result, Ok, Err, subst}
+use Rattle.std.specs.Prelude.{nat_le, if◌then◌else◌, decimal, map}
 use Rattle.group_quorum.specs.Voters.{fault_of}
 use Rattle.group_quorum.specs.declared.ConfigFault.{ConfigFault}
 use Rattle.values.specs.declared.event.Event.{Event}
 use Rattle.values.specs.declared.event.Event.TheVariants as event
-use Rattle.values.specs.declared.event.Cause.TheVariants.{Fields, Number, Range}
+use Rattle.values.specs.declared.event.Cause.TheVariants.{Fields}
 use Rattle.values.specs.declared.limits.TheConstants.{MOST_ROWS}
-use Rattle.schedule_model.specs.Reading.{RecordFault, ◌>>=◌, fault, is_number, number_of, replicas_from, value_of_digits}
+use Rattle.schedule_model.specs.Reading.{RecordFault, ◌>>=◌, fault, number_of, replicas_from}
 use Rattle.record_cutting.specs.Lines.{Record}
 use Rattle.schedule_model.specs.Lines.{record_fields}
 use Rattle.schedule_model.specs.Records.{begin_of, begin_or, fields_as, placed, some_event}
 use Rattle.schedule_model.specs.Records as word
+use Rattle.schedule_model.proofs.Reading.{number_of-range}
 use Rattle.trace_model.specs.TraceLines as lines
 use Rattle.trace_model.specs.TraceLines.{Form, EventForm, RefusedForm, RefusedByGroup, LeadForm, MembersForm, HaltForm, TakenForm, CommitForm, AnswerForm, SentForm, SavedForm, ClientForm, LogForm, RollbacksForm, EndForm, StoppedAtRecord, StoppedAtLimit, StoppedAtFrame, InRange, IsRecord, Says, TraceLine, said_by}
 use Rattle.values.specs.declared.message.Answer.TheVariants as answer
 use Rattle.trace_audit.specs.Stands.{IsPlayable}
-
--- ---- a number is in its range
-in_range : (text : List ℕ) (k low high n : ℕ) → number_of text k low high ≡ Ok n → (low ≤ n) × (n ≤ high)
-in_range text k low high n e = by (not (is_number text)) (nat_le low (value_of_digits text)) (nat_le (value_of_digits text) high) refl refl e
-  where
-    by : (a b c : Bool) → nat_le low (value_of_digits text) ≡ b → nat_le (value_of_digits text) high ≡ c
-        → (if a then fault Number k else (if b && c then Ok (value_of_digits text) else fault Range k)) ≡ Ok n → (low ≤ n) × (n ≤ high)
-    by true b c least most e = absurd cc
-    by false true true least most e = let same : value_of_digits text ≡ n = cc in (grind arith, grind arith)
-    by false true false least most e = absurd cc
-    by false false c least most e = absurd cc
 
 -- ---- the parts of a begin record
 limit_told : (f : Option ConfigFault) (m l : ℕ) (vs : List ℕ) (margin limit : ℕ) (voters : List ℕ)
@@ -51,7 +41,7 @@ counted false fields e is = absurd cc
 begin_record : (margin limit : ℕ) (voters : List ℕ) → IsRecord (event.Begin margin limit voters) → (1 ≤ limit) × (limit ≤ MOST_ROWS)
 begin_record margin limit voters r =
     let fields : Record = record_fields (event.Begin margin limit voters) in
-    in_range (decimal limit) 3 1 MOST_ROWS limit
+    number_of-range (decimal limit) 3 1 MOST_ROWS limit
     (limit_read (number_of (decimal margin) 2 0 15) (number_of (decimal limit) 3 1 MOST_ROWS) (replicas_from 4 (map decimal voters)) margin limit voters
     (counted (nat_le 4 (length fields)) fields (event.Begin margin limit voters) r.1))
 

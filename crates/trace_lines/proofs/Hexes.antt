@@ -11,6 +11,7 @@ use Rattle.hex.specs.declared.error.FromHexError.{FromHexError}
 use Rattle.hex.proofs.HexLemmas.{decode_of-encode_lower, decode_of-even, decode_of-ok}
 use Rattle.schedule_model.specs.Lines.{hex}
 use Rattle.schedule_model.specs.Reading.{bytes_or_fault}
+use Rattle.schedule_model.proofs.Reading.{bytes_or_fault-ok}
 use Rattle.trace_model.specs.TraceLines.{is_byte, is_bytes}
 use Rattle.trace_lines.specs.Fields.{is_lower, is_hex, is_sized, hex_in}
 use Rattle.trace_lines.proofs.Steps.{chosen, ok_of}
@@ -166,14 +167,10 @@ hex_printed text bytes is low =
     let d = decode_of-ok text bytes is in
     record { same = sym (pairs_printed 0 text bytes (sym (decode_of-even text d.0) ∙ is) low); are_bytes = all_bytes bytes d.3; twice = d.2 }
 
-or_fault : (k : ℕ) (r : Result (List ℕ) FromHexError) (bytes : List ℕ) → bytes_or_fault k r ≡ Ok bytes → r ≡ Ok bytes
-or_fault k (Ok b) bytes is = ap Ok (ap (λ r. result_unwrap_or r []) is)
-or_fault k (Err e) bytes is = cc is
-
 pub hex_found : (text bytes : List ℕ) → hex_in text ≡ Some bytes → IsHexOf text bytes
 hex_found text bytes is =
     let c = chosen (is_lower text) (result_ok (bytes_or_fault 0 (decode_of text))) bytes is in
-    hex_printed text bytes (or_fault 0 (decode_of text) bytes (ok_of (bytes_or_fault 0 (decode_of text)) bytes c.1)) c.0
+    hex_printed text bytes (bytes_or_fault-ok 0 (decode_of text) bytes (ok_of (bytes_or_fault 0 (decode_of text)) bytes c.1)) c.0
 
 pub hex_only : (bytes : List ℕ) → IsTrue (list_all is_byte bytes) → hex_in (hex bytes) ≡ Some bytes
 hex_only bytes h =

@@ -4,11 +4,12 @@ use Rattle.std.specs.Prelude.{IsTrue, decimal, nat_le, fold}
 use Rattle.std.specs.Char.{is_ascii_digit, is_ascii_uppercase}
 use Rattle.std.specs.List.{list_all}
 use Rattle.std.specs.Result.{result_ok}
-use Rattle.std.proofs.lemmas.Bool.{cond-true, cond-false, and_from, and_parts, le-leb, leb-true, lt-leb, ne_eqb, not_from_true, not_from_false}
-use Rattle.std.proofs.lemmas.Fmt.{decimal-digits_value, decimal_digit, decimal_nonempty, digits_decimal, digits_value-decimal, first_decimal}
+use Rattle.std.proofs.lemmas.Bool.{and_from, and_parts, le-leb, leb-true, lt-leb, ne_eqb, not_from_false}
+use Rattle.std.proofs.lemmas.Fmt.{decimal-digits_value, decimal_digit, decimal_nonempty, digits_decimal, first_decimal}
 use Rattle.std.proofs.lemmas.Str.Parse.{FoldsDigits, IsDigitsTest, IsNumeralModel, numerals_by_fold}
 use Rattle.values.specs.declared.event.Cause.TheVariants.{Number, Range}
 use Rattle.schedule_model.specs.Reading.{fault, is_number, value_of_digits, number_of, max_u64}
+use Rattle.schedule_model.proofs.Reading.{number_of-decimal}
 use Rattle.trace_lines.specs.Fields.{number_in, is_lower}
 use Rattle.trace_lines.proofs.Steps.{ok_of}
 
@@ -52,16 +53,6 @@ decimal_number : (n : ℕ) → n < 2 ^ 64 → IsTrue (is_number (decimal n))
 decimal_number n h = number_from (decimal n) (digits_decimal own n h) (decimal_nonempty n h) (decimal_lead n h)
 
 -- ---- reading
--- a number in its range is read as it was printed
-pub number_again : (n k low high : ℕ) → low ≤ n → n ≤ high → high ≤ max_u64 → number_of (decimal n) k low high ≡ Ok n
-number_again n k low high from to top =
-    let small : n < 2 ^ 64 = omega (arith, to, top) in
-    let value : value_of_digits (decimal n) ≡ n = digits_value-decimal own n small in
-    cond-false (not (is_number (decimal n))) _ _ (not_from_true (is_number (decimal n)) (decimal_number n small))
-    ∙ cond-true (nat_le low (value_of_digits (decimal n)) && nat_le (value_of_digits (decimal n)) high) (Ok (value_of_digits (decimal n))) _
-    (and_from (nat_le low (value_of_digits (decimal n))) (nat_le (value_of_digits (decimal n)) high) (le-leb low (value_of_digits (decimal n)) (omega (arith, from, value))) (le-leb (value_of_digits (decimal n)) high (omega (arith, to, value))))
-    ∙ ap Ok value
-
 pub record IsNumber (text : List ℕ) (low high n : ℕ) : Type 0 where
   pub number : IsTrue (is_number text)
   pub value : value_of_digits text ≡ n
@@ -117,4 +108,4 @@ pub number_found : (text : List ℕ) (low high n : ℕ) → high ≤ max_u64 →
 number_found text low high n top is = number_printed text 0 low high n top (ok_of (number_of text 0 low high) n is)
 
 pub number_only : (n low high : ℕ) → low ≤ n → n ≤ high → high ≤ max_u64 → number_in low high (decimal n) ≡ Some n
-number_only n low high from to top = ap result_ok (number_again n 0 low high from to top)
+number_only n low high from to top = ap result_ok (number_of-decimal n 0 low high from to top)

@@ -6,7 +6,6 @@ use Rattle.std.specs.Result.{result_ok}
 use Rattle.std.proofs.lemmas.Bool.{cond-true, and_from, and_parts, eqb-true, leb-true}
 use Rattle.std.proofs.lemmas.Option.{none-some, same_Some}
 use Rattle.hex.specs.Hex.{decode_of}
-use Rattle.hex.specs.declared.error.FromHexError.{FromHexError}
 use Rattle.group_quorum.specs.Voters.{fault_of}
 use Rattle.group_quorum.specs.declared.ConfigFault.{ConfigFault}
 use Rattle.group_quorum.specs.declared.TheConstants.{MAX_ID, MAX_MARGIN}
@@ -22,6 +21,7 @@ use Rattle.schedule_model.specs.Lines.{Line, hex, record_fields}
 use Rattle.schedule_model.specs.Reading.{RecordFault, fault, ◌>>=◌, field, number_of, bytes_or_fault, replicas_from, max_u32, max_u64}
 use Rattle.schedule_model.specs.Records.{Word, begin_or, event_at, event_of, fields_as, first_words, has_fields, is_remark, meaning, placed, some_event, want_words, word_of, word_or}
 use Rattle.schedule_model.specs.Records as word
+use Rattle.schedule_model.proofs.Reading.{bytes_or_fault-ok}
 use Rattle.trace_model.specs.TraceLines.{IsNoSettle, IsRecord, is_begin}
 use Rattle.trace_lines.specs.Fields.{are_lower, is_lower}
 use Rattle.trace_lines.specs.Lines.{begins, event_told, record_in}
@@ -59,12 +59,8 @@ word_prints text printed is low = inl (is, subst (λ t. IsTrue (is_lower t)) (sy
 number_prints : (text : List ℕ) (k low high n : ℕ) → high ≤ max_u64 → number_of text k low high ≡ Ok n → Prints text (decimal n)
 number_prints text k low high n top is = let p = number_printed text k low high n top is in inl (p.same, p.lower)
 
-or_fault : (k : ℕ) (r : Result (List ℕ) FromHexError) (bytes : List ℕ) → bytes_or_fault k r ≡ Ok bytes → r ≡ Ok bytes
-or_fault k (Ok b) bytes is = ap Ok (same_ok b bytes is)
-or_fault k (Err e) bytes is = cc is
-
 bytes_print : (text : List ℕ) (k : ℕ) (bytes : List ℕ) → bytes_or_fault k (decode_of text) ≡ Ok bytes → Prints text (hex bytes)
-bytes_print text k bytes is = inr (bytes, or_fault k (decode_of text) bytes is, refl)
+bytes_print text k bytes is = inr (bytes, bytes_or_fault-ok k (decode_of text) bytes is, refl)
 
 tested_print : (text : List ℕ) (k : ℕ) (test : List ℕ → Bool) (c : Cause) (bytes : List ℕ)
     → (bytes_or_fault k (decode_of text) >>= λ b. if test b then Ok b else fault c k) ≡ Ok bytes → Prints text (hex bytes)

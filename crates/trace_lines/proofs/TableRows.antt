@@ -23,6 +23,7 @@ use Rattle.schedule_model.specs.Quantities.{Quantity}
 use Rattle.schedule_model.specs.Reading.{RecordFault}
 use Rattle.schedule_model.specs.Refusals.{GroupRefusal, NoMessage, Lost, NotRunning, AlreadyStarted, NoSuchState, ClientBusy, WrongSize, NumbersOut, NothingInFlight, NoAnswer, NotYours}
 use Rattle.trace_model.specs.TraceLines.{Form, RefusedForm, RefusedByGroup, StoppedAtRecord, StoppedAtLimit, StoppedAtFrame, InRange, Refused, Stopped, Other, answer_said, form_fields, group_refusal_numbers, is_answer, is_index, is_message, is_report, is_u32, is_u64, refusal_numbers, said_by}
+use Rattle.trace_model.proofs.Numbers.{one_number}
 use Rattle.trace_lines.specs.declared.kind.Kind.TheVariants as kind
 use Rattle.trace_lines.specs.Kinds.{answer_rows, fits_row, message_rows, refusal_rows, report_rows, stop_rows}
 use Rattle.trace_lines.proofs.FieldKinds.{RowOf, row_found, row_only}
@@ -198,11 +199,8 @@ answer_only (answer.Halted index) = λ h. row_only answer_rows (codes "halted") 
 abbrev pub RefusalOf : Line → Type 0
 RefusalOf fields = (f : Form) × (refused_line fields ≡ form_fields f) × InRange f × (said_by f ≡ Refused)
 
-one_wide : (n : ℕ) → IsTrue (is_u64 n) → IsTrue (list_all is_u64 (n ∷ []))
-one_wide n h = and_from (is_u64 n) true h refl
-
 two_wide : (m n : ℕ) → IsTrue (is_u64 m && is_u64 n) → IsTrue (list_all is_u64 (m ∷ n ∷ []))
-two_wide m n h = let p = and_parts (is_u64 m) (is_u64 n) h in and_from (is_u64 m) (list_all is_u64 (n ∷ [])) p.0 (one_wide n p.1)
+two_wide m n h = let p = and_parts (is_u64 m) (is_u64 n) h in and_from (is_u64 m) (list_all is_u64 (n ∷ [])) p.0 (one_number n p.1)
 
 one_back : (n : ℕ) → IsTrue (list_all is_u64 (n ∷ [])) → IsTrue (is_u64 n)
 one_back n h = (and_parts (is_u64 n) true h).0
@@ -212,51 +210,51 @@ two_back m n h = let p = and_parts (is_u64 m) (list_all is_u64 (n ∷ [])) h in 
 
 refusal_each : Each (RowOf RefusalOf) refusal_rows
 refusal_each = (
-  (λ v h. (RefusedForm (refusal.NotLeader v.0), refl, one_wide v.0 h, refl)),
+  (λ v h. (RefusedForm (refusal.NotLeader v.0), refl, one_number v.0 h, refl)),
   (
     (λ v h. (RefusedForm (refusal.ChangePending v.0 v.1.0), refl, two_wide v.0 v.1.0 h, refl)),
     (
-      (λ v h. (RefusedForm (refusal.AlreadyVoter v.0), refl, one_wide v.0 h, refl)),
+      (λ v h. (RefusedForm (refusal.AlreadyVoter v.0), refl, one_number v.0 h, refl)),
       (
-        (λ v h. (RefusedForm (refusal.NotVoter v.0), refl, one_wide v.0 h, refl)),
+        (λ v h. (RefusedForm (refusal.NotVoter v.0), refl, one_number v.0 h, refl)),
         (
-          (λ v h. (RefusedForm (refusal.TooFew v.0), refl, one_wide v.0 h, refl)),
+          (λ v h. (RefusedForm (refusal.TooFew v.0), refl, one_number v.0 h, refl)),
           (
-            (λ v h. (RefusedForm (refusal.TooMany v.0), refl, one_wide v.0 h, refl)),
+            (λ v h. (RefusedForm (refusal.TooMany v.0), refl, one_number v.0 h, refl)),
             (
               (λ v h. (RefusedForm (refusal.NotCaughtUp v.0 v.1.0), refl, two_wide v.0 v.1.0 h, refl)),
               (
-                (λ v h. (RefusedForm (refusal.NoLink v.0), refl, one_wide v.0 h, refl)),
+                (λ v h. (RefusedForm (refusal.NoLink v.0), refl, one_number v.0 h, refl)),
                 (
-                  (λ v h. (RefusedForm (refusal.LogFull v.0), refl, one_wide v.0 h, refl)),
+                  (λ v h. (RefusedForm (refusal.LogFull v.0), refl, one_number v.0 h, refl)),
                   (
-                    (λ v h. (RefusedForm (refusal.NoState v.0), refl, one_wide v.0 h, refl)),
+                    (λ v h. (RefusedForm (refusal.NoState v.0), refl, one_number v.0 h, refl)),
                     (
-                      (λ v h. (RefusedForm (refusal.NotForMe v.0), refl, one_wide v.0 h, refl)),
+                      (λ v h. (RefusedForm (refusal.NotForMe v.0), refl, one_number v.0 h, refl)),
                       (
-                        (λ v h. (RefusedForm (refusal.BadPeer v.0), refl, one_wide v.0 h, refl)),
+                        (λ v h. (RefusedForm (refusal.BadPeer v.0), refl, one_number v.0 h, refl)),
                         (
-                          (λ v h. (RefusedForm (refusal.SameMargin v.0), refl, one_wide v.0 h, refl)),
+                          (λ v h. (RefusedForm (refusal.SameMargin v.0), refl, one_number v.0 h, refl)),
                           (
-                            (λ v h. (RefusedByGroup (NoMessage v.0), refl, one_wide v.0 h, refl)),
+                            (λ v h. (RefusedByGroup (NoMessage v.0), refl, one_number v.0 h, refl)),
                             (
-                              (λ v h. (RefusedByGroup (Lost v.0), refl, one_wide v.0 h, refl)),
+                              (λ v h. (RefusedByGroup (Lost v.0), refl, one_number v.0 h, refl)),
                               (
-                                (λ v h. (RefusedByGroup (NotRunning v.0), refl, one_wide v.0 h, refl)),
+                                (λ v h. (RefusedByGroup (NotRunning v.0), refl, one_number v.0 h, refl)),
                                 (
-                                  (λ v h. (RefusedByGroup (AlreadyStarted v.0), refl, one_wide v.0 h, refl)),
+                                  (λ v h. (RefusedByGroup (AlreadyStarted v.0), refl, one_number v.0 h, refl)),
                                   (
                                     (λ v h. (RefusedByGroup ClientBusy, refl, refl, refl)),
                                     (
-                                      (λ v h. (RefusedByGroup (WrongSize v.0 v.1.0), refl, one_wide v.1.0 h, refl)),
+                                      (λ v h. (RefusedByGroup (WrongSize v.0 v.1.0), refl, one_number v.1.0 h, refl)),
                                       (
-                                        (λ v h. (RefusedByGroup (NumbersOut v.0), refl, one_wide v.0 h, refl)),
+                                        (λ v h. (RefusedByGroup (NumbersOut v.0), refl, one_number v.0 h, refl)),
                                         (
                                           (λ v h. (RefusedByGroup NothingInFlight, refl, refl, refl)),
                                           (
-                                            (λ v h. (RefusedByGroup (NoAnswer v.0), refl, one_wide v.0 h, refl)),
+                                            (λ v h. (RefusedByGroup (NoAnswer v.0), refl, one_number v.0 h, refl)),
                                             (
-                                              (λ v h. (RefusedByGroup (NotYours v.0), refl, one_wide v.0 h, refl)),
+                                              (λ v h. (RefusedByGroup (NotYours v.0), refl, one_number v.0 h, refl)),
                                               tt,
                                             ),
                                           ),

@@ -1,2 +1,1 @@
 mod Elected
-mod Places

@@ -2,7 +2,7 @@ use Rattle.std.proofs.Common.{◌≡◌, ◌++◌, rules}
 use Rattle.proto_wire.specs.Written.{message_field}
 use Rattle.group_msgs.specs.Canonical.{entry_fields}
 use Rattle.group_msgs.specs.Ranges.{FitsBody}
-use Rattle.group_msgs.proofs.Loops.{all_more, written_more}
+use Rattle.values.proofs.Loops.{all_more, written_more}
 use Rattle.group_msgs.proofs.write.put_entries.Goals as goal
 
 pub loop-entry-preserved : goal.loop-entry-preserved

@@ -2,7 +2,7 @@ use Rattle.std.proofs.Common.{◌≡◌, ◌++◌, rules}
 use Rattle.proto_wire.specs.Written.{message_field}
 use Rattle.group_msgs.specs.Canonical.{row_fields}
 use Rattle.group_msgs.specs.Ranges.{FitsRow}
-use Rattle.group_msgs.proofs.Loops.{all_more, written_more}
+use Rattle.values.proofs.Loops.{all_more, written_more}
 use Rattle.group_msgs.proofs.write.put_rows.Goals as goal
 
 pub loop-row-preserved : goal.loop-row-preserved

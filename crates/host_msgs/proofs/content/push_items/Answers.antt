@@ -1,7 +1,7 @@
 use Rattle.std.proofs.Common.{◌≡◌, ◌++◌, rules}
 use Rattle.host_msgs.specs.Batches.{item_bytes}
 use Rattle.host_msgs.specs.Needs.{IsShort}
-use Rattle.host_msgs.proofs.Loops.{all_more, written_more}
+use Rattle.values.proofs.Loops.{all_more, written_more}
 use Rattle.host_msgs.proofs.content.push_items.Goals as goal
 
 pub loop-item-preserved : goal.loop-item-preserved

@@ -3,7 +3,7 @@ use Rattle.host_msgs.specs.Batches.{item_bytes}
 use Rattle.host_msgs.specs.Again.{IsSentItem}
 use Rattle.host_msgs.specs.Contents.{sent_content}
 use Rattle.host_msgs.specs.Needs.{IsShort}
-use Rattle.host_msgs.proofs.Loops.{all_more, written_more}
+use Rattle.values.proofs.Loops.{all_more, written_more}
 use Rattle.host_msgs.proofs.write.push_sent.Goals as goal
 
 pub loop-to-preserved : goal.loop-to-preserved

@@ -2,7 +2,7 @@ use Rattle.std.proofs.Common.{rules, ◌≡◌, ℕ, false, List, sym, ap, ◌�
 use Rattle.std.proofs.lemmas.Bool.{cond-false}
 use Rattle.std.specs.List.{insert}
 use Rattle.group_quorum.specs.Voters.{is_in, insert_rising}
-use Rattle.vote_rules.proofs.Places.{above, insert-rising}
+use Rattle.group_quorum.proofs.Inserted.{above, insert-rising}
 use Rattle.vote_rules.proofs.votes.insert.Goals as goal
 
 pub returns-then-not-contains-clause-ids : goal.returns-then-not-contains-clause-ids

@@ -2,7 +2,7 @@ use Rattle.std.proofs.Common.{rules, fold, ap, ◌∙◌}
 use Rattle.std.proofs.lemmas.Iterator.Consumers.{YieldsList-end}
 use Rattle.std.proofs.lemmas.Iterator.Adapters.{YieldsList-from_rev_slice}
 use Rattle.replica_model.specs.Peers.{with_id}
-use Rattle.vote_rules.proofs.Places.{united-fold}
+use Rattle.replica_model.proofs.United.{united-fold}
 use Rattle.vote_rules.proofs.votes.unite.Goals as goal
 
 pub returns : goal.returns

@@ -1,12 +1,14 @@
-use Rattle.std.proofs.Common.{ℕ, List, nat_lt, refl, sym, ap, ◌∙◌, arith, length}
+use Rattle.std.proofs.Common.{ℕ, List, not, nat_lt, refl, sym, ap, ◌∙◌, arith, length}
+use Rattle.std.proofs.lemmas.List.Sums.{prefix_len-le-length}
 use Rattle.std.specs.List.{insert, position_or_len}
-use Rattle.group_world.proofs.Enlisting.{insert-rising, place-within, roster-either}
+use Rattle.group_quorum.proofs.Inserted.{insert-rising}
+use Rattle.group_world.proofs.Enlisting.{roster-either}
 use Rattle.group_world.proofs.world.World.enlist.Goals as goal
 
 pub insert-requires : goal.insert-requires
 insert-requires c =
     let at = c.place_of-place.ensures ∙ ap (position_or_len (λ v. nat_lt c.args.id v)) c.as_slice.ensures.value in
-    let within = place-within c.args.id c.args.self.now.running.items in
+    let within = prefix_len-le-length (λ v. not (nat_lt c.args.id v)) c.args.self.now.running.items in
     let size = c.as_slice.ensures.len in
     let same = ap length c.as_slice.ensures.value in
     omega (arith, within, at, size, same)

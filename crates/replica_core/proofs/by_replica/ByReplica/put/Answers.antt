@@ -1,10 +1,11 @@
-use Rattle.std.proofs.Common.{◌≡◌, ℕ, ◌<◌, nat_le, Some, List, length, refl, sym, ◌∙◌, ap, subst, arith}
+use Rattle.std.proofs.Common.{◌≡◌, ℕ, ◌<◌, not, nat_le, Some, List, length, refl, sym, ◌∙◌, ap, subst, arith}
 use Rattle.std.proofs.Math.ListN.{set}
 use Rattle.std.proofs.lemmas.Option.{slice_get_read, get_or_from_slice_get, slice_get_within}
+use Rattle.std.proofs.lemmas.List.Sums.{prefix_len-le-length}
 use Rattle.std.specs.List.{insert}
 use Rattle.std.specs.Prelude.{slice_get}
 use Rattle.replica_model.specs.Keyed.{put}
-use Rattle.replica_core.proofs.Listed.{place, place-within, get_or-get_or, put-set, put-insert}
+use Rattle.replica_core.proofs.Listed.{place, get_or-get_or, put-set, put-insert}
 use Rattle.replica_core.proofs.by_replica.ByReplica.put.Goals as goal
 use Rattle.replica_core.proofs.by_replica.ByReplica.put.Goals.{else-place-len-via-then-place-len+else-index-id, else-place-len-via-else-place-len}
 
@@ -12,7 +13,7 @@ pub insert-requires : goal.insert-requires
 insert-requires g c =
     let xs : List (ℕ × g.row.T.Denot) = c.self.inside.items.items in
     let at : c.place_of-place.result ≡ place xs c.args.id = c.place_of-place.ensures ∙ ap (λ ys. place ys c.args.id) (sym c.self.view_is) in
-    let within = place-within (λ item. nat_le c.args.id item.0) xs in
+    let within = prefix_len-le-length (λ item. not (nat_le c.args.id item.0)) xs in
     let ok = c.self.inside.items.ok in
     omega (arith, at, within, ok)
 

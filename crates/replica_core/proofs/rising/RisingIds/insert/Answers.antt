@@ -1,15 +1,16 @@
-use Rattle.std.proofs.Common.{◌≡◌, ℕ, List, nat_lt, sym, ap, ◌∙◌, arith}
+use Rattle.std.proofs.Common.{◌≡◌, ℕ, List, not, nat_lt, sym, ap, ◌∙◌, arith}
 use Rattle.std.proofs.lemmas.Bool.{cond-false}
+use Rattle.std.proofs.lemmas.List.Sums.{prefix_len-le-length}
 use Rattle.group_quorum.specs.Voters.{is_in, insert_rising}
 use Rattle.std.specs.List.{insert}
-use Rattle.replica_core.proofs.Listed.{above, insert-rising, place-within}
+use Rattle.group_quorum.proofs.Inserted.{above, insert-rising}
 use Rattle.replica_core.proofs.rising.RisingIds.insert.Goals as goal
 
 pub insert-requires : goal.insert-requires
 insert-requires c =
     let xs : List ℕ = c.self.inside.ids.items in
     let at : c.place_of-place.result ≡ above xs c.args.id = c.place_of-place.ensures ∙ ap (λ ys. above ys c.args.id) (sym c.self.view_is) in
-    let within = place-within (λ v. nat_lt c.args.id v) xs in
+    let within = prefix_len-le-length (λ v. not (nat_lt c.args.id v)) xs in
     let ok = c.self.inside.ids.ok in
     omega (arith, at, within, ok)
 

@@ -4,7 +4,7 @@ use Rattle.std.proofs.lemmas.List.Sums.{fold_push}
 use Rattle.std.proofs.lemmas.Iterator.Consumers.{YieldsList-end}
 use Rattle.std.proofs.lemmas.Iterator.Adapters.{YieldsList-from_rev_slice}
 use Rattle.replica_model.specs.Peers.{with_id}
-use Rattle.replica_core.proofs.Listed.{united-fold}
+use Rattle.replica_model.proofs.United.{united-fold}
 use Rattle.replica_core.proofs.rising.RisingIds.unite.Goals as goal
 
 pub loop-id-init : goal.loop-id-init
