@@ -16,12 +16,13 @@ use Rattle.schedule_model.specs.Lines.{hex, want_fields, record_fields}
 use Rattle.schedule_model.specs.Reading.{RecordFault, fault, ◌>>=◌, number_of, bytes_or_fault, replicas_from, max_u32, max_u64}
 use Rattle.schedule_model.specs.Records.{Word, event_of, some_event, placed, fields_as, begin_or}
 use Rattle.schedule_model.specs.Records as word
+use Rattle.schedule_model.proofs.Reading.{number_of-decimal}
 use Rattle.record_cutting.specs.Lines.{Record}
 use Rattle.trace_model.specs.TraceLines.{IsRecord, is_hash, is_client_id, is_byte}
 use Rattle.values.specs.declared.limits.TheConstants.{MAX_REQUEST, MAX_SOURCE}
 use Rattle.audit_laws.proofs.Lines.{size, decimal_size, hex_size, client_size, hash_size, ids_size, id_u64, u64_test}
 use Rattle.range_laws.proofs.Confs.{fault_few}
-use Rattle.range_laws.proofs.ReadBack.{reads_number, reads_hex}
+use Rattle.range_laws.proofs.ReadBack.{reads_hex}
 use Rattle.range_laws.proofs.Worlds.{IsShort, IsShortWant}
 use Rattle.range_laws.specs.Ranges.{IsId, AreIds, EventIn, WantIn, AreBytes}
 
@@ -53,7 +54,7 @@ record_short (event.Again c) h short = absurd h
 
 -- ---- that it reads as it
 id_reads : (r k : ℕ) → IsId r → number_of (decimal r) k 1 65535 ≡ Ok r
-id_reads r k h = let p = and_parts (nat_le 1 r) (nat_le r 65535) h in reads_number r k 1 65535 (leb-true 1 r p.0) (leb-true r 65535 p.1) (omega arith)
+id_reads r k h = let p = and_parts (nat_le 1 r) (nat_le r 65535) h in number_of-decimal r k 1 65535 (leb-true 1 r p.0) (leb-true r 65535 p.1) (omega arith)
 
 hex_reads : (bytes : List ℕ) (k : ℕ) → AreBytes bytes → bytes_or_fault k (decode_of (hex bytes)) ≡ Ok bytes
 hex_reads bytes k h = ap (bytes_or_fault k) (reads_hex bytes h)
@@ -92,14 +93,14 @@ two_reads make r x high hr hx =
 and_number : (make : ℕ → ℕ → Event) (r x high : ℕ) → IsId r → x ≤ high → high ≤ max_u64 → (number_of (decimal r) 2 1 65535 >>= (λ a. number_of (decimal x) 3 0 high >>= (λ b. Ok (make a b)))) ≡ Ok (make r x)
 and_number make r x high hr le top =
     ap (λ (y : Result ℕ RecordFault). y >>= (λ a. number_of (decimal x) 3 0 high >>= (λ b. Ok (make a b)))) (id_reads r 2 hr)
-    ∙ ap (λ (y : Result ℕ RecordFault). y >>= (λ b. Ok (make r b))) (reads_number x 3 0 high (omega arith) le top)
+    ∙ ap (λ (y : Result ℕ RecordFault). y >>= (λ b. Ok (make r b))) (number_of-decimal x 3 0 high (omega arith) le top)
 
 ask_reads : (r n : ℕ) (c : ClientId) (bytes : List ℕ) → IsId r → IsTrue (is_client_id c) → n ≤ max_u64 → AreBytes bytes → length bytes ≤ 65536
     → (number_of (decimal r) 2 1 65535 >>= (λ r. client_of (hex c.0) 3 >>= (λ c. number_of (decimal n) 4 0 max_u64 >>= (λ n. (bytes_or_fault 5 (decode_of (hex bytes)) >>= (λ b. if nat_le (length b) MAX_REQUEST then Ok b else fault Range 5)) >>= (λ q. Ok (event.Ask r c n q)))))) ≡ Ok (event.Ask r c n bytes)
 ask_reads r n c bytes hr hc hn hb short =
     ap (λ (y : Result ℕ RecordFault). y >>= (λ r. client_of (hex c.0) 3 >>= (λ c. number_of (decimal n) 4 0 max_u64 >>= (λ n. (bytes_or_fault 5 (decode_of (hex bytes)) >>= (λ b. if nat_le (length b) MAX_REQUEST then Ok b else fault Range 5)) >>= (λ q. Ok (event.Ask r c n q)))))) (id_reads r 2 hr)
     ∙ (ap (λ (y : Result ClientId RecordFault). y >>= (λ c. number_of (decimal n) 4 0 max_u64 >>= (λ n. (bytes_or_fault 5 (decode_of (hex bytes)) >>= (λ b. if nat_le (length b) MAX_REQUEST then Ok b else fault Range 5)) >>= (λ q. Ok (event.Ask r c n q))))) (client_reads c 3 hc)
-    ∙ (ap (λ (y : Result ℕ RecordFault). y >>= (λ n. (bytes_or_fault 5 (decode_of (hex bytes)) >>= (λ b. if nat_le (length b) MAX_REQUEST then Ok b else fault Range 5)) >>= (λ q. Ok (event.Ask r c n q)))) (reads_number n 4 0 max_u64 (omega arith) hn (omega arith))
+    ∙ (ap (λ (y : Result ℕ RecordFault). y >>= (λ n. (bytes_or_fault 5 (decode_of (hex bytes)) >>= (λ b. if nat_le (length b) MAX_REQUEST then Ok b else fault Range 5)) >>= (λ q. Ok (event.Ask r c n q)))) (number_of-decimal n 4 0 max_u64 (omega arith) hn (omega arith))
     ∙ ap (λ (y : Result (List ℕ) RecordFault). y >>= (λ q. Ok (event.Ask r c n q))) (request_reads bytes 5 hb short)))
 
 want_reads : (c : ClientId) → IsTrue (is_client_id c) → (w : Want) → WantIn w → IsRecord (event.Want c w)
@@ -110,7 +111,7 @@ want_reads c hc (want.Store secret pin tries) h = (tt, ap some_event store)
         ap (λ (y : Result ClientId RecordFault). y >>= (λ c. bytes_or_fault 4 (decode_of (hex secret)) >>= (λ s. pin_of (hex pin.0) 5 >>= (λ p. number_of (decimal tries) 6 0 max_u32 >>= (λ t. Ok (event.Want c (want.Store s p t))))))) (client_reads c 2 hc)
         ∙ (ap (λ (y : Result (List ℕ) RecordFault). y >>= (λ s. pin_of (hex pin.0) 5 >>= (λ p. number_of (decimal tries) 6 0 max_u32 >>= (λ t. Ok (event.Want c (want.Store s p t)))))) (hex_reads secret 4 h.0)
         ∙ (ap (λ (y : Result Hash RecordFault). y >>= (λ p. number_of (decimal tries) 6 0 max_u32 >>= (λ t. Ok (event.Want c (want.Store secret p t))))) (pin_reads pin 5 h.1)
-        ∙ ap (λ (y : Result ℕ RecordFault). y >>= (λ t. Ok (event.Want c (want.Store secret pin t)))) (reads_number tries 6 0 max_u32 (omega arith) h.2 (omega arith))))
+        ∙ ap (λ (y : Result ℕ RecordFault). y >>= (λ t. Ok (event.Want c (want.Store secret pin t)))) (number_of-decimal tries 6 0 max_u32 (omega arith) h.2 (omega arith))))
 want_reads c hc (want.Recover pin) h = (tt, ap some_event recover)
   where
     recover : (client_of (hex c.0) 2 >>= (λ c. pin_of (hex pin.0) 4 >>= (λ p. Ok (event.Want c (want.Recover p))))) ≡ Ok (event.Want c (want.Recover pin))
@@ -127,7 +128,7 @@ say_reads c r hc hr =
 hear_reads : (c : ClientId) (a : ℕ) → IsTrue (is_client_id c) → 1 ≤ a → a ≤ max_u64 → (client_of (hex c.0) 2 >>= (λ c. number_of (decimal a) 3 1 max_u64 >>= (λ a. Ok (event.Hear c a)))) ≡ Ok (event.Hear c a)
 hear_reads c a hc from to =
     ap (λ (y : Result ClientId RecordFault). y >>= (λ c. number_of (decimal a) 3 1 max_u64 >>= (λ a. Ok (event.Hear c a)))) (client_reads c 2 hc)
-    ∙ ap (λ (y : Result ℕ RecordFault). y >>= (λ a. Ok (event.Hear c a))) (reads_number a 3 1 max_u64 from to (omega arith))
+    ∙ ap (λ (y : Result ℕ RecordFault). y >>= (λ a. Ok (event.Hear c a))) (number_of-decimal a 3 1 max_u64 from to (omega arith))
 
 ids_read : (k : ℕ) (vs : List ℕ) → AreIds vs → replicas_from k (map decimal vs) ≡ Ok vs
 ids_read k [] h = refl
@@ -138,8 +139,8 @@ ids_read k (v ∷ vs) h =
 begin_reads : (margin limit : ℕ) (voters : List ℕ) → margin ≤ 15 → 1 ≤ limit → limit ≤ 20000 → AreIds voters → fault_of margin voters ≡ None
     → (number_of (decimal margin) 2 0 15 >>= (λ m. number_of (decimal limit) 3 1 20000 >>= (λ l. replicas_from 4 (map decimal voters) >>= (λ vs. begin_or (fault_of m vs) m l vs)))) ≡ Ok (event.Begin margin limit voters)
 begin_reads margin limit voters a b c d e =
-    ap (λ (y : Result ℕ RecordFault). y >>= (λ m. number_of (decimal limit) 3 1 20000 >>= (λ l. replicas_from 4 (map decimal voters) >>= (λ vs. begin_or (fault_of m vs) m l vs)))) (reads_number margin 2 0 15 (omega arith) a (omega arith))
-    ∙ (ap (λ (y : Result ℕ RecordFault). y >>= (λ l. replicas_from 4 (map decimal voters) >>= (λ vs. begin_or (fault_of margin vs) margin l vs))) (reads_number limit 3 1 20000 b c (omega arith))
+    ap (λ (y : Result ℕ RecordFault). y >>= (λ m. number_of (decimal limit) 3 1 20000 >>= (λ l. replicas_from 4 (map decimal voters) >>= (λ vs. begin_or (fault_of m vs) m l vs)))) (number_of-decimal margin 2 0 15 (omega arith) a (omega arith))
+    ∙ (ap (λ (y : Result ℕ RecordFault). y >>= (λ l. replicas_from 4 (map decimal voters) >>= (λ vs. begin_or (fault_of margin vs) margin l vs))) (number_of-decimal limit 3 1 20000 b c (omega arith))
     ∙ (ap (λ (y : Result (List ℕ) RecordFault). y >>= (λ vs. begin_or (fault_of margin vs) margin limit vs)) (ids_read 4 voters d)
     ∙ ap (λ o. begin_or o margin limit voters) e))
 
@@ -158,8 +159,8 @@ record_reads (event.Begin margin limit voters) h = by_voters voters (fault_few m
         )
 record_reads (event.Start r) h = (tt, ap (λ (x : Result ℕ RecordFault). some_event (x >>= (λ r. Ok (event.Start r)))) (id_reads r 2 h))
 record_reads (event.Tick r) h = (tt, ap (λ (x : Result ℕ RecordFault). some_event (x >>= (λ r. Ok (event.Tick r)))) (id_reads r 2 h))
-record_reads (event.Deliver k) h = (tt, ap (λ (x : Result ℕ RecordFault). some_event (x >>= (λ r. Ok (event.Deliver r)))) (reads_number k 2 1 max_u64 h.0 h.1 (omega arith)))
-record_reads (event.Lose k) h = (tt, ap (λ (x : Result ℕ RecordFault). some_event (x >>= (λ r. Ok (event.Lose r)))) (reads_number k 2 1 max_u64 h.0 h.1 (omega arith)))
+record_reads (event.Deliver k) h = (tt, ap (λ (x : Result ℕ RecordFault). some_event (x >>= (λ r. Ok (event.Deliver r)))) (number_of-decimal k 2 1 max_u64 h.0 h.1 (omega arith)))
+record_reads (event.Lose k) h = (tt, ap (λ (x : Result ℕ RecordFault). some_event (x >>= (λ r. Ok (event.Lose r)))) (number_of-decimal k 2 1 max_u64 h.0 h.1 (omega arith)))
 record_reads (event.Settle n) h = absurd h
 record_reads (event.Crash r) h = (tt, ap (λ (x : Result ℕ RecordFault). some_event (x >>= (λ r. Ok (event.Crash r)))) (id_reads r 2 h))
 record_reads (event.Save r) h = (tt, ap (λ (x : Result ℕ RecordFault). some_event (x >>= (λ r. Ok (event.Save r)))) (id_reads r 2 h))

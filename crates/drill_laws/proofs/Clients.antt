@@ -1,11 +1,10 @@
 -- The clients of a drill, and their wants.
-use Rattle.std.proofs.Common.{◌≡◌, ℕ, ◌+◌, ◌%◌, ◌≤◌, ◌==◌, ◌&&◌, Bool, true, false, cond, Some, None, Ok, List, [], ◌∷◌, drop, inl, inr, refl, sym, ◌∙◌, arith}
-use Rattle.std.specs.Prelude.{nat_le, nat_lt, if◌then◌else◌, find, option_map, unwrap_or, bytes_eq}
+use Rattle.std.proofs.Common.{◌≡◌, ℕ, ◌+◌, ◌%◌, ◌≤◌, ◌==◌, ◌&&◌, true, false, cond, Some, None, Ok, List, [], drop, inl, inr, refl, sym, ◌∙◌, arith}
+use Rattle.std.specs.Prelude.{nat_le, nat_lt, if◌then◌else◌, unwrap_or, bytes_eq}
 use Rattle.std.specs.Int.{w64, from_be_bytes, to_be_bytes}
 use Rattle.std.proofs.lemmas.Bool.{cases_Bool, cond_both, le-leb}
 use Rattle.std.proofs.lemmas.Slice.Eq.{bytes_eq-Decides}
 use Rattle.std.proofs.lemmas.Nat.{from_be_bytes-to_be_bytes_8}
-use Rattle.values.specs.declared.ids.ClientId.{ClientId}
 use Rattle.values.specs.declared.message.Part.TheVariants.{Tries}
 use Rattle.values.specs.declared.message.Request.{Request}
 use Rattle.values.specs.declared.message.Request.TheVariants as request
@@ -16,11 +15,10 @@ use Rattle.client_msgs.specs.Reading.{request_of}
 use Rattle.client_msgs.specs.Sizes.{size_fault}
 use Rattle.client_msgs.proofs.RoundTrip.{request_of-canonical}
 use Rattle.record_rules.specs.Clients.{client_eq}
-use Rattle.schedule_model.specs.Client.{Core, first_request, numbers_needed}
+use Rattle.schedule_model.specs.Client.{first_request, numbers_needed}
 use Rattle.schedule_model.specs.Drill.{client, secret, pin, no_pin, tries, wish}
-use Rattle.group_model.specs.Group.{is_client, core_of, put_core}
-use Rattle.drill_laws.proofs.Numbers.{same_bytes}
-use Rattle.drill_laws.proofs.Tables.{client_eq-true}
+use Rattle.group_model.specs.Group.{is_client}
+use Rattle.record_rules.proofs.Clients.{client_eq-true}
 
 -- ---- clients are told apart
 client_number : (i j : ℕ) → i ≤ 2001 → j ≤ 2001 → (client i).0 ≡ (client j).0 → i ≡ j
@@ -43,36 +41,6 @@ clients_apart i j low_i low_j other = elim (cases_Bool (client_eq (client i) (cl
   | inl is ↦ absurd (other (client_number i j low_i low_j (λ k. (client_eq-true (client i) (client j) is k).0)))
   | inr apart ↦ apart
 ]
-
--- ---- cores
-pub core_put : (cores : List (ClientId × Core)) (c : ClientId) (core : Core) → core_of (put_core cores c core) c ≡ Some core
-core_put [] c core = λ i. option_map (λ (x : ClientId × Core). x.1) (cond (same_bytes c.0 i) (Some (c, core)) None)
-core_put (x ∷ xs) c core = by_head (is_client x.0 c) refl (core_put xs c core)
-  where
-    by_head : (b : Bool) → is_client x.0 c ≡ b → core_of (put_core xs c core) c ≡ Some core → core_of (cond b ((c, core) ∷ xs) (x ∷ put_core xs c core)) c ≡ Some core
-    by_head true is rest = λ i. option_map (λ (x : ClientId × Core). x.1) (cond (same_bytes c.0 i) (Some (c, core)) (find (λ (y : ClientId × Core). is_client y.0 c) xs))
-    by_head false is rest = (λ i. option_map (λ (x : ClientId × Core). x.1) (cond (is i) (Some x) (find (λ (y : ClientId × Core). is_client y.0 c) (put_core xs c core)))) ∙ rest
-
-pub core_stays : (cores : List (ClientId × Core)) (d c : ClientId) (core : Core) → is_client d c ≡ false → core_of (put_core cores d core) c ≡ core_of cores c
-core_stays [] d c core other = λ i. option_map (λ (x : ClientId × Core). x.1) (cond (other i) (Some (d, core)) None)
-core_stays (x ∷ xs) d c core other = by_head (is_client x.0 d) refl (core_stays xs d c core other)
-  where
-    by_other : (b : Bool) → core_of (put_core xs d core) c ≡ core_of xs c
-        → option_map (λ (y : ClientId × Core). y.1) (cond b (Some x) (find (λ (y : ClientId × Core). is_client y.0 c) (put_core xs d core))) ≡ option_map (λ (y : ClientId × Core). y.1) (cond b (Some x) (find (λ (y : ClientId × Core). is_client y.0 c) xs))
-    by_other true rest = refl
-    by_other false rest = rest
-
-    by_head : (b : Bool) → is_client x.0 d ≡ b → core_of (put_core xs d core) c ≡ core_of xs c → core_of (cond b ((d, core) ∷ xs) (x ∷ put_core xs d core)) c ≡ core_of (x ∷ xs) c
-    by_head true is rest =
-        (λ i. option_map (λ (y : ClientId × Core). y.1) (cond (other i) (Some (d, core)) (find (λ (y : ClientId × Core). is_client y.0 c) xs)))
-        ∙ (λ i. option_map (λ (y : ClientId × Core). y.1) (cond (sym apart i) (Some x) (find (λ (y : ClientId × Core). is_client y.0 c) xs)))
-      where
-        same : x.0 ≡ d
-        same = λ i. record { 0 = bytes_same x.0.0 d.0 is i }
-
-        apart : is_client x.0 c ≡ false
-        apart = (λ i. is_client (same i) c) ∙ other
-    by_head false is rest = by_other (is_client x.0 c) rest
 
 -- ---- requests
 tries_fit : (i : ℕ) → (1 ≤ tries i) × (tries i ≤ 255)

@@ -1,12 +1,12 @@
 -- A group begins beside the machine's start.
-use Rattle.std.proofs.Common.{◌≡◌, ℕ, ◌+◌, ◌<◌, ◌==◌, not, Bool, true, false, cond, nat_lt, inl, inr, Option, Some, None, Ok, List, [], ◌∷◌, length, refl, sym, ap, ◌∙◌, subst, arith}
+use Rattle.std.proofs.Common.{◌≡◌, ℕ, ◌+◌, ◌<◌, ◌==◌, not, Bool, true, false, cond, nat_lt, inl, inr, Some, None, Ok, List, [], ◌∷◌, length, refl, sym, ap, ◌∙◌, subst, arith}
 use Rattle.std.proofs.lemmas.Bool.{cond_both, cond-true, cond-false, cases_Bool, and_parts, or_cases, or_left, or_right, eqb-true, eq-eqb, ltb-true}
 use Rattle.std.proofs.lemmas.Option.{none-some}
 use Rattle.group_quorum.specs.Conf.{Conf}
-use Rattle.group_quorum.specs.Voters.{is_id, is_in, first_bad, bad_fault, fault_of, rising, conf_of, conf_or}
-use Rattle.group_quorum.specs.declared.ConfigFault.{ConfigFault}
+use Rattle.group_quorum.specs.Voters.{is_id, is_in, first_bad, bad_fault, fault_of, rising, conf_of}
 use Rattle.group_quorum.specs.declared.ConfigFault.TheVariants.{TooMany}
 use Rattle.group_quorum.specs.declared.TheConstants.{MAX_VOTERS, MAX_ID}
+use Rattle.group_quorum.proofs.Faults.{bad_fault-none, conf_or-made}
 use Rattle.replica_model.specs.Path.{Link}
 use Rattle.replica_model.specs.Replica.{Replica, begin}
 use Rattle.replica_model.specs.Call.{still}
@@ -44,24 +44,14 @@ all_ids (x ∷ ids) v none h = elim (cases_Bool (is_id x)) [
   | inr bad ↦ absurd (none-some x (sym none ∙ cond-true (not (is_id x)) (Some x) (first_bad ids) (subst (λ b. not b ≡ true) (sym bad) refl)))
 ]
 
-none_bad : (o : Option ℕ) (margin : ℕ) (ids : List ℕ) → bad_fault o margin ids ≡ None → o ≡ None
-none_bad None margin ids h = refl
-none_bad (Some v) margin ids h = cc
-
 faultless : (margin : ℕ) (ids : List ℕ) → fault_of margin ids ≡ None → first_bad ids ≡ None
 faultless margin ids = cond_both (nat_lt MAX_VOTERS (length ids)) (Some (TooMany _)) (bad_fault (first_bad ids) margin ids) (λ o. o ≡ None → first_bad ids ≡ None)
     (λ b h. cc)
-    (λ b h. none_bad (first_bad ids) margin ids h)
-
-made_of : (o : Option ConfigFault) (margin : ℕ) (ids : List ℕ) (c : Conf) → conf_or o margin ids ≡ Ok c → (o ≡ None) × (rising ids ≡ c.voters)
-made_of (Some fault) margin ids c h = cc
-made_of None margin ids c h =
-    let same : record { margin = margin; voters = rising ids } ≡ c = cc in
-    (refl, ap (λ (d : Conf). d.voters) same)
+    (λ b h. bad_fault-none (first_bad ids) margin ids h)
 
 pub made_ids : (margin : ℕ) (ids : List ℕ) (c : Conf) → conf_of margin ids ≡ Ok c → (v : ℕ) → is_in c.voters v ≡ true → 0 < v
 made_ids margin ids c h v among =
-    let made = made_of (fault_of margin ids) margin ids c h in
+    let made = conf_or-made (fault_of margin ids) margin ids c h in
     let known : is_in (rising ids) v ≡ true = subst (λ vs. is_in vs v ≡ true) (sym made.1) among in
     ltb-true 0 v (and_parts (nat_lt 0 v) (nat_lt v (MAX_ID + 1)) (all_ids ids v (faultless margin ids made.0) (in_rising ids v known))).0
 

@@ -1,5 +1,5 @@
 -- What a history tells of promises and paths, and that it only grows.
-use Rattle.std.proofs.Common.{zero, suc, inl, inr, take, ◌++◌, ◌≡◌, ◌≤◌, ℕ, Option, List, [], ◌∷◌, length, nat_lt, refl, sym, ap, ◌∙◌, length-append, arith}
+use Rattle.std.proofs.Common.{zero, suc, inl, inr, take, ◌++◌, ◌≡◌, ◌≤◌, ℕ, Option, List, [], ◌∷◌, length, nat_lt, sym, ap, ◌∙◌, length-append, arith}
 use Rattle.group_model.specs.Log.{AnyByRecursion, state_of, promised_path, longest, IsFrontOf}
 use Rattle.std.specs.List.{AllByRecursion}
 use Rattle.std.proofs.lemmas.Bool.{cond_both, ltb-true, ltb-false}
@@ -13,7 +13,8 @@ use Rattle.group_model.specs.Run.{Recorded}
 use Rattle.agreement.specs.Promised.{IsComparable}
 use Rattle.log_laws.proofs.Chain.{NoCollisionIn}
 use Rattle.log_laws.proofs.Good.{front_refl}
-use Rattle.log_laws.proofs.Leading.{begins, front}
+use Rattle.agreement.proofs.Fronts.{begins}
+use Rattle.log_laws.proofs.Leading.{front}
 
 -- a history with one more call
 abbrev pub with_call : List Recorded → ℕ → Replica → Option (HostInput Message) → Call → List Recorded
@@ -70,22 +71,6 @@ module _ {A : Type 0} where
   all_take P zero xs h = tt
   all_take P (suc k) [] h = tt
   all_take P (suc k) (x ∷ xs) h = (h.0, all_take P k xs h.1)
-
--- two fronts of one path are comparable
-pub both_fronts : (p q w : Path) → IsFrontOf p w → IsFrontOf q w → IsComparable p q
-both_fronts [] q w a b = inl (q, refl)
-both_fronts (x ∷ p) [] w a b = inr (x ∷ p, refl)
-both_fronts (x ∷ p) (y ∷ q) [] a b = absurd (let none : x ∷ (p ++ a.0) ≡ [] = a.1 in cc)
-both_fronts (x ∷ p) (y ∷ q) (z ∷ w) a b =
-    let one : x ∷ (p ++ a.0) ≡ z ∷ w = a.1 in
-    let two : y ∷ (q ++ b.0) ≡ z ∷ w = b.1 in
-    let tail : p ++ a.0 ≡ w = cc in
-    let tail' : q ++ b.0 ≡ w = cc in
-    let same : x ≡ y = cc in
-    elim (both_fronts p q w (a.0, tail) (b.0, tail')) [
-      | inl pre ↦ inl (pre.0, let t : p ++ pre.0 ≡ q = pre.1 in cc)
-      | inr pre ↦ inr (pre.0, let t : q ++ pre.0 ≡ p = pre.1 in cc)
-    ]
 
 -- the shorter of two comparable paths is the front
 shorter_first : (p q : Path) → IsComparable p q → length p ≤ length q → IsFrontOf p q

@@ -24,9 +24,6 @@ use Rattle.log_laws.proofs.Good.{GoodPath, GoodProgress, GoodSending, GoodLeadin
 abbrev pub unknown : Progress
 unknown = record { next = 0; mark = 0; promised = 0 }
 
-pub begins : (p q w : Path) → IsFrontOf p q → IsFrontOf q w → IsFrontOf p w
-begins p q w a b = (a.0 ++ b.0, sym (append_assoc p a.0 b.0) ∙ (ap (λ x. x ++ b.0) a.1 ∙ b.1))
-
 pub front : (k : ℕ) (w : Path) → IsFrontOf (take k w) w
 front k w = (drop k w, take-append-drop k w)
 

@@ -18,7 +18,8 @@ use Rattle.agreement.proofs.Committing.{committed_each}
 use Rattle.agreement.proofs.Places.{conf_index_le, take_front}
 use Rattle.log_laws.proofs.Chain.{max_cases}
 use Rattle.log_laws.proofs.Good.{GoodPath, GoodLeading, GoodRole, GoodShape, GoodCall}
-use Rattle.log_laws.proofs.Leading.{begins, front, path_shorter}
+use Rattle.agreement.proofs.Fronts.{begins}
+use Rattle.log_laws.proofs.Leading.{front, path_shorter}
 
 -- the greatest number above `had` that passes is `had`, or it is above it and passes
 pub greatest_is : (passes : ℕ → Bool) (had n : ℕ) → (greatest_above passes had n ≡ had) ⊎ ((had < greatest_above passes had n) × (passes (greatest_above passes had n) ≡ true))

@@ -1,28 +1,24 @@
 -- Places of a path: what an entry is read as, and what a front of a path says of the path.
-use Rattle.std.proofs.Common.{◌≡◌, ℕ, zero, suc, ◌<◌, ◌≤◌, ◌&&◌, inl, inr, Option, Some, None, Result, Ok, Err, List, [], ◌∷◌, ◌++◌, length, take, refl, sym, ap, subst, ◌∙◌, arith}
-use Rattle.std.specs.Prelude.{nat_le, IfSome, IfOk, option_map}
-use Rattle.std.proofs.lemmas.Bool.{cases_Bool, cond-false, and_parts, leb-true}
+use Rattle.std.proofs.Common.{◌≡◌, ℕ, zero, suc, ◌<◌, ◌≤◌, Option, Some, None, Result, Ok, Err, List, [], ◌∷◌, ◌++◌, length, take, refl, sym, ap, subst, ◌∙◌, arith}
+use Rattle.std.specs.Prelude.{IfSome, IfOk, option_map}
 use Rattle.std.proofs.lemmas.Option.{none-some, same_Some}
 use Rattle.std.proofs.lemmas.List.{take-take, take_at}
-use Rattle.std.specs.Option.{option_or}
 use Rattle.proto_wire.specs.declared.field.WireFault.{WireFault}
 use Rattle.proto_wire.specs.Fields.{Field, sequence_at}
 use Rattle.proto_wire.specs.Reading.{first_fault, last_member}
 use Rattle.values.specs.declared.entry.Body.{Body}
 use Rattle.values.specs.declared.entry.Body.TheVariants.{Noop, Ask, Members}
-use Rattle.values.specs.declared.entry.Hash.{Hash}
 use Rattle.values.specs.declared.entry.LogEntry.{LogEntry}
 use Rattle.values.specs.declared.ids.ClientId.{ClientId}
 use Rattle.values.specs.declared.message.Part.{Part}
-use Rattle.values.specs.declared.message.Part.TheVariants.{Secret, Pin, Tries}
 use Rattle.values.specs.declared.message.Request.{Request}
-use Rattle.values.specs.declared.message.Request.TheVariants.{Backup, Restore, Delete, Expose}
 use Rattle.client_msgs.specs.Reading.{if_sized, request_from, request_in, request_of}
 use Rattle.client_msgs.proofs.RoundTrip.{request_of-canonical}
+use Rattle.client_msgs.proofs.SizesLemmas.{size_fault-valid}
 use Rattle.client_msgs.specs.Canonical.{canonical_request}
-use Rattle.client_msgs.specs.Sizes.{FitsRequest, outside, secret_fault, pin_fault, tries_fault, size_fault}
+use Rattle.client_msgs.specs.Sizes.{size_fault}
 use Rattle.client_msgs.specs.declared.fault.RequestFault.{RequestFault}
-use Rattle.values.specs.Sizes.{IsSecret, IsValid}
+use Rattle.values.specs.Sizes.{IsValid}
 use Rattle.values.specs.declared.message.Reply.{Reply}
 use Rattle.record_rules.specs.Places.{ClientAsk, Places, fold_places, ask_at, reply_at}
 use Rattle.record_rules.specs.Rules.{apply}
@@ -31,33 +27,8 @@ use Rattle.replica_model.specs.Path.{Path, entry_at}
 use Rattle.replica_model.specs.Folds.{ask_of, place_of, places_of, reply_of}
 use Rattle.group_model.specs.Log.{IsFrontOf}
 
-within_sizes : (part : Part) (least most size : ℕ) → outside part least most size ≡ None → (least ≤ size) × (size ≤ most)
-within_sizes part least most size is = elim (cases_Bool (nat_le least size && nat_le size most)) [
-  | inl holds ↦ let parts = and_parts (nat_le least size) (nat_le size most) holds in (leb-true least size parts.0, leb-true size most parts.1)
-  | inr fails ↦ absurd (none-some (part, size) (sym is ∙ cond-false (nat_le least size && nat_le size most) None (Some (part, size)) fails))
-]
-
-valid_secret : (secret : List ℕ) → secret_fault secret ≡ None → IsSecret secret
-valid_secret secret is = within_sizes Secret 16 48 (length secret) is
-
-pin_fits : (pin : Hash) → pin_fault pin ≡ None → length pin.0 ≡ 32
-pin_fits pin is = let range = within_sizes Pin 32 32 (length pin.0) is in omega (arith, range.0, range.1)
-
-either_none : (a b : Option (Part × ℕ)) → option_or a b ≡ None → (a ≡ None) × (b ≡ None)
-either_none None b is = (refl, is)
-either_none (Some fault) b is = absurd (none-some fault (sym is))
-
-valid_sizes : (request : Request) → size_fault request ≡ None → IsValid request
-valid_sizes (Backup secret pin tries) is =
-    let first = either_none (secret_fault secret) (option_or (pin_fault pin) (tries_fault tries)) is in
-    let rest = either_none (pin_fault pin) (tries_fault tries) first.1 in
-    (valid_secret secret first.0, within_sizes Tries 1 255 tries rest.1)
-valid_sizes (Restore pin) is = tt
-valid_sizes Delete is = tt
-valid_sizes (Expose secret) is = valid_secret secret is
-
 valid_sized : (request : Request) (o : Option (Part × ℕ)) → size_fault request ≡ o → IfOk (if_sized o request) IsValid
-valid_sized request None is = valid_sizes request is
+valid_sized request None is = (size_fault-valid request is).0
 valid_sized request (Some fault) is = tt
 
 valid_in : (fault : Option WireFault) (member : Option (ℕ × List Field)) → IfOk (request_in fault member) IsValid
@@ -70,16 +41,8 @@ valid_read : (bytes : List ℕ) → IfOk (request_of bytes) IsValid
 valid_read bytes = valid_in (first_fault 2 5 (sequence_at 0 bytes)) (last_member 2 5 (sequence_at 0 bytes).fields)
 
 -- ---- a request that was read is read again from its canonical bytes
-fits_sizes : (request : Request) → size_fault request ≡ None → FitsRequest request
-fits_sizes (Backup secret pin tries) is =
-    let rest = either_none (pin_fault pin) (tries_fault tries) (either_none (secret_fault secret) (option_or (pin_fault pin) (tries_fault tries)) is).1 in
-    pin_fits pin rest.0
-fits_sizes (Restore pin) is = pin_fits pin is
-fits_sizes Delete is = tt
-fits_sizes (Expose secret) is = tt
-
 again_sized : (read : Request) (o : Option (Part × ℕ)) → size_fault read ≡ o → IfOk (if_sized o read) (λ request. request_of (canonical_request request) ≡ Ok request)
-again_sized read None is = request_of-canonical read (valid_sizes read is) (fits_sizes read is)
+again_sized read None is = let sized = size_fault-valid read is in request_of-canonical read sized.0 sized.1
 again_sized read (Some fault) is = tt
 
 again_in : (fault : Option WireFault) (member : Option (ℕ × List Field)) → IfOk (request_in fault member) (λ request. request_of (canonical_request request) ≡ Ok request)

@@ -5,10 +5,11 @@ use Rattle.values.specs.declared.entry.Point.{Point}
 use Rattle.values.specs.declared.peer.TablePart.{TablePart}
 use Rattle.values.specs.declared.peer.PeerMsg.{PeerMsg}
 use Rattle.values.specs.declared.peer.PeerMsg.TheVariants.{Part}
-use Rattle.replica_model.specs.Path.{Path, Link, end_point}
+use Rattle.replica_model.specs.Path.{Link, end_point}
 use Rattle.replica_model.specs.Message.{Message}
 use Rattle.replica_model.specs.Replica.{Named, Taking, Role, Learner}
-use Rattle.replica_model.specs.Tables.{rows_of, parts_of, point_taken}
+use Rattle.replica_model.specs.Tables.{point_taken}
+use Rattle.replica_model.proofs.Parts.{one_part}
 use Rattle.group_model.specs.Enclave.{HostInput, Peer}
 use Rattle.group_model.specs.Group.{Sent}
 use Rattle.group_model.specs.Log.{AnyByRecursion, NoCollision}
@@ -18,11 +19,6 @@ use Rattle.part_laws.specs.Named.{GoesOn, IsNamed, IsNamedTo, IsNamedCall, Calls
 use Rattle.part_laws.proofs.True.{GoodTables, HasGoodTables}
 use Rattle.part_laws.proofs.Runs.{HandedSent, PartOf, IsPartOf, WasTold, TrueRun, run_true}
 use Rattle.part_laws.proofs.Map.{KnownPart, Known, KnownMail, same_point_is, one_name, mail_known}
-
--- the table of an empty path has one part
-one_part : (n : Named) (path : Path) → n.path ≡ path → length path ≡ 0 → parts_of (rows_of n) ≡ 1
-one_part n [] is empty = rw is refl
-one_part n (e ∷ path) is empty = absurd cc
 
 module _ (link : Link) (w : World) (none : NoCollision link w) where
   part_point : (names : Named) (part : TablePart) → KnownPart link w none names part → part.point ≡ end_point link names.path

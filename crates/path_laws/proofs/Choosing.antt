@@ -5,7 +5,9 @@ use Rattle.values.specs.declared.entry.LogEntry.{LogEntry}
 use Rattle.replica_model.specs.Path.{Path, last_term, term_at}
 use Rattle.group_quorum.specs.Conf.{Conf}
 use Rattle.group_model.specs.Log.{IsFrontOf}
-use Rattle.path_machine.proofs.Fronts.{begins, front_refl, front_append, front_of, last_take}
+use Rattle.agreement.proofs.Fronts.{begins}
+use Rattle.replica_model.proofs.Paths.{last_term-take}
+use Rattle.path_machine.proofs.Fronts.{front_refl, front_append, front_of}
 use Rattle.path_machine.specs.Node.{Node, quiet, is_leader, may_choose, mark, promising}
 use Rattle.path_machine.specs.Machine.{raise, choosing, noted, Choice, History, Machine, In, Chosen, moved, choices, seen}
 use Rattle.replica_model.specs.Enough.{is_enough}
@@ -31,7 +33,7 @@ may_parts first v s i ok =
     let p4 = and_parts (nat_le i (length s.path)) ((term_at s.path i == s.term) && wins) p3.1 in
     let p5 = and_parts (term_at s.path i == s.term) wins p4.1 in
     let le : i ≤ length s.path = leb-true i (length s.path) p4.0 in
-    record { so = p1.0; some = ltb-true 0 i p3.0; le = le; last = last_take i s.path le ∙ eqb-true (term_at s.path i) s.term p5.0; wins = p5.1 }
+    record { so = p1.0; some = ltb-true 0 i p3.0; le = le; last = last_term-take i s.path le ∙ eqb-true (term_at s.path i) s.term p5.0; wins = p5.1 }
 
 -- the choice of an index
 abbrev pub choice : Node → ℕ → Choice

@@ -12,7 +12,8 @@ use Rattle.replica_model.proofs.Paths.{conf-append}
 use Rattle.group_model.specs.Log.{IsFrontOf}
 use Rattle.path_machine.specs.Node.{Learner, Follower, Node, Message, AskVote, Vote, Append, Accepted, Part, Outcome, with_value, quiet, empty, is_learner, is_leader, is_candidate, risen, followed, stood, stand, elects, led, pushed, may_push, may_choose, promising, commit, common, grafted, append, taken, term_of, learns, hears, takes}
 use Rattle.path_machine.specs.Machine.{History, Machine, Move, Do, Deliver, Act, Rise, Follow, Stand, Win, Push, Note, Raise, Commit, Send, Hand, Crash, start, moved, noted, acts, by, rise, deliver, happens, mover, seen, next, run, In}
-use Rattle.path_machine.proofs.Fronts.{begins, front_refl, front_of}
+use Rattle.agreement.proofs.Fronts.{begins}
+use Rattle.path_machine.proofs.Fronts.{front_refl, front_of}
 use Rattle.path_laws.proofs.Steps.{value_cases, some_same, in_append}
 use Rattle.path_laws.proofs.Kept.{in_get}
 

@@ -6,7 +6,8 @@ use Rattle.replica_model.specs.Path.{Path}
 use Rattle.group_quorum.specs.Conf.{Conf}
 use Rattle.path_machine.specs.Node.{common, Node, Message, AskVote, Vote, Append, Accepted, Part, quiet, is_learner, grafted, append, taken, learns}
 use Rattle.group_model.specs.Log.{IsFrontOf}
-use Rattle.path_machine.proofs.Fronts.{begins, front_refl, front_nil, front_append, front_of, both_fronts, common_ge}
+use Rattle.agreement.proofs.Fronts.{begins, both_fronts}
+use Rattle.path_machine.proofs.Fronts.{front_refl, front_nil, front_append, front_of, common_ge}
 use Rattle.path_machine.specs.Machine.{Reign, History, Machine, In, moved, sends}
 use Rattle.path_machine.proofs.Same.{common_same, common_le, max_cases}
 use Rattle.path_machine.proofs.Completeness.{same_reign, complete}

@@ -8,7 +8,8 @@ use Rattle.group_model.specs.Log.{IsFrontOf}
 use Rattle.path_machine.specs.Node.{Node}
 use Rattle.path_machine.specs.Machine.{Machine, start, run}
 use Rattle.path_machine.specs.Laws.{Held, MachineLaws, RunsKeepTheLaws}
-use Rattle.path_machine.proofs.Fronts.{begins, front_long}
+use Rattle.agreement.proofs.Fronts.{begins}
+use Rattle.path_machine.proofs.Fronts.{front_long}
 use Rattle.path_machine.proofs.Completeness.{same_reign, complete}
 use Rattle.path_machine.proofs.Good.{ledger, Place, Kept}
 use Rattle.path_laws.proofs.Kept.{run_kept, start_kept}

@@ -6,7 +6,8 @@ use Rattle.replica_model.specs.Path.{Path}
 use Rattle.group_quorum.specs.Conf.{Conf}
 use Rattle.group_model.specs.Log.{IsFrontOf}
 use Rattle.agreement.proofs.Places.{take_front}
-use Rattle.path_machine.proofs.Fronts.{begins, front_refl, front_of, front_long}
+use Rattle.agreement.proofs.Fronts.{begins}
+use Rattle.path_machine.proofs.Fronts.{front_refl, front_of, front_long}
 use Rattle.path_machine.specs.Node.{Role, Learner, Follower, Candidate, Leader, Node, Message, AskVote, Vote, Append, Accepted, Part, with_value, quiet, is_learner, is_leader, is_candidate, fallen, followed, risen, stood, stand, commit, send, hand}
 use Rattle.path_machine.specs.Machine.{History, Machine, In, moved, sends, rise}
 use Rattle.path_machine.proofs.Good.{ledger, Sealed, Known, Newer, GoodMessage, below, Fits, GoodNode, Kept}

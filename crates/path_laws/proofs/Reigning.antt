@@ -10,7 +10,8 @@ use Rattle.group_quorum.specs.Conf.{Conf}
 use Rattle.replica_model.specs.Configs.{is_members, changed_by, conf, conf_index}
 use Rattle.group_model.specs.Log.{IsFrontOf}
 use Rattle.agreement.proofs.Places.{take_front}
-use Rattle.path_machine.proofs.Fronts.{begins, front_refl, front_append, ends}
+use Rattle.agreement.proofs.Fronts.{begins}
+use Rattle.path_machine.proofs.Fronts.{front_refl, front_append, ends}
 use Rattle.path_machine.specs.Node.{Role, Learner, Follower, Candidate, Leader, Node, Vote, Accepted, with_value, is_learner, is_leader, is_candidate, elects, led, pushed, may_push}
 use Rattle.path_machine.specs.Machine.{Reign, History, Machine, In, won, win, grown, extended, push}
 use Rattle.path_machine.specs.Changes.{Overlap}

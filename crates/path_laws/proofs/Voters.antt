@@ -9,7 +9,8 @@ use Rattle.replica_model.specs.Configs.{is_members, changed_by, conf, conf_index
 use Rattle.group_model.specs.Log.{IsFrontOf}
 use Rattle.agreement.proofs.Places.{has_members, conf_plain, last_at, first_members, take_before, take_upto, take_front}
 use Rattle.replica_model.proofs.Paths.{conf-append}
-use Rattle.path_machine.proofs.Fronts.{begins, front_of, front_long, step_of}
+use Rattle.agreement.proofs.Fronts.{begins, first_of_front}
+use Rattle.path_machine.proofs.Fronts.{front_of, front_long}
 use Rattle.path_machine.specs.Node.{Node, Accepted, is_candidate, elects, mark}
 use Rattle.replica_model.specs.Enough.{is_enough}
 use Rattle.path_machine.specs.Machine.{History, In, Chosen}
@@ -41,7 +42,7 @@ module _ (first : Conf) (h : History) (b : ℕ) where
 
   first_settled : (c : Path) (a : LogEntry) (r u : Path) (p : Path) → c ++ a ∷ r ≡ p → IsFrontOf u p → length c + 1 ≤ length u → Settled h b u → Settled h b (c ++ a ∷ [])
   first_settled c a r u p is pre le s =
-      let mine : IsFrontOf (c ++ a ∷ []) p = subst (IsFrontOf (c ++ a ∷ [])) is (step_of c a r) in
+      let mine : IsFrontOf (c ++ a ∷ []) p = subst (IsFrontOf (c ++ a ∷ [])) is (first_of_front c a r) in
       record { term = s.term; path = s.path; below = s.below; chosen = s.chosen; front = begins (c ++ a ∷ []) u s.path (front_long (c ++ a ∷ []) u p mine pre (omega (arith, length_push c a))) s.front }
 
 front_conf : (first : Conf) (c f : Path) → has_members f ≡ false → conf first (c ++ f) ≡ conf first c
@@ -58,7 +59,7 @@ candidate_elected first h v s good so wins bound c (a ∷ r) is = elim (first_me
   | inr f ↦
       let u : Path = c ++ f.front in
       let whole : u ++ f.entry ∷ f.rest ≡ s.path = append_assoc c f.front (f.entry ∷ f.rest) ∙ (ap (λ y. c ++ y) (sym f.is) ∙ is) in
-      let upto : IsFrontOf (u ++ f.entry ∷ []) s.path = subst (IsFrontOf (u ++ f.entry ∷ [])) whole (step_of u f.entry f.rest) in
+      let upto : IsFrontOf (u ++ f.entry ∷ []) s.path = subst (IsFrontOf (u ++ f.entry ∷ [])) whole (first_of_front u f.entry f.rest) in
       let long : length c + 1 ≤ length (u ++ f.entry ∷ []) = omega (arith, length_push u f.entry, length-append c f.front) in
       elim (cases_Bool (has_members f.rest)) [
         | inl some ↦ inr (
@@ -111,8 +112,8 @@ chosen_fixed first h g v s i grows known l some le wins chosen older c a r is = 
       elim (cases_Bool (has_members f.rest)) [
         | inl more ↦
             let s1 : Settled h (s.term + 1) (u ++ f.entry ∷ []) = members_settled first h (s.term + 1) q u f.entry f.rest known_q whole f.members more in
-            let upto : IsFrontOf (u ++ f.entry ∷ []) q = subst (IsFrontOf (u ++ f.entry ∷ [])) whole (step_of u f.entry f.rest) in
-            let mine : IsFrontOf (c ++ a ∷ []) q = subst (IsFrontOf (c ++ a ∷ [])) is (step_of c a r) in
+            let upto : IsFrontOf (u ++ f.entry ∷ []) q = subst (IsFrontOf (u ++ f.entry ∷ [])) whole (first_of_front u f.entry f.rest) in
+            let mine : IsFrontOf (c ++ a ∷ []) q = subst (IsFrontOf (c ++ a ∷ [])) is (first_of_front c a r) in
             older (u ++ f.entry ∷ []) s1 c a (front_long (c ++ a ∷ []) (u ++ f.entry ∷ []) q mine upto (omega (arith, length_push c a, length_push u f.entry, length-append c f.front)))
         | inr none ↦
             let conf_u : conf first u ≡ conf first c = front_conf first c f.front f.plain in
@@ -140,7 +141,7 @@ chosen_fixed first h g v s i grows known l some le wins chosen older c a r is = 
 
     fixed_by : (config : Conf) → Overlap (conf first c) config → Met config who → Fixed first g s.term c a
     fixed_by config near enough' = record {
-      settled = record { term = s.term; path = q; below = omega arith; chosen = chosen; front = subst (IsFrontOf (c ++ a ∷ [])) is (step_of c a r) };
+      settled = record { term = s.term; path = q; below = omega arith; chosen = chosen; front = subst (IsFrontOf (c ++ a ∷ [])) is (first_of_front c a r) };
       config = config;
       near = near;
       who = who;

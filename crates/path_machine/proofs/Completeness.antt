@@ -8,7 +8,8 @@ use Rattle.group_quorum.specs.Conf.{Conf}
 use Rattle.replica_model.specs.Configs.{conf}
 use Rattle.group_model.specs.Log.{IsFrontOf}
 use Rattle.agreement.specs.Promised.{IsComparable}
-use Rattle.path_machine.proofs.Fronts.{begins, front_nil, front_append, front_length, both_fronts, front_long, same_next, step_of, last_push, ends}
+use Rattle.agreement.proofs.Fronts.{begins, both_fronts, first_of_front}
+use Rattle.path_machine.proofs.Fronts.{front_nil, front_append, front_length, front_long, same_next, last_push, ends}
 use Rattle.group_quorum.proofs.Sharing.{counts_overlap}
 use Rattle.replica_model.specs.Votes.{as_new}
 use Rattle.path_machine.specs.Machine.{Reign, History, Chosen}
@@ -130,13 +131,13 @@ module _ (first : Conf) (h : History) where
               (votes shared.0 shared.1 fixed.settled.term fixed.settled.path fixed.settled.chosen (omega arith) (fixed.each shared.0 shared.2))
           | inr o ↦
               let s = o.3 in
-              let mine : IsFrontOf (c ++ a ∷ []) p = subst (IsFrontOf (c ++ a ∷ [])) is (step_of c a r) in
+              let mine : IsFrontOf (c ++ a ∷ []) p = subst (IsFrontOf (c ++ a ∷ [])) is (first_of_front c a r) in
               let same : a ≡ o.0 = elim (agreeing t s.term p s.path chosen s.chosen lt s.below) [
                 | inl x ↦ same_next c a o.0 s.path (begins (c ++ a ∷ []) p s.path mine x) s.front
                 | inr x ↦ same_next c a o.0 p mine (begins (c ++ o.0 ∷ []) s.path p s.front x)
               ] in
               let whole : c ++ o.0 ∷ o.1 ≡ q = subst (λ d. c ++ d ≡ q) o.2 pre.1 in
-              subst (λ e. IsFrontOf (c ++ e ∷ []) q) (sym same) (subst (IsFrontOf (c ++ o.0 ∷ [])) whole (step_of c o.0 o.1))
+              subst (λ e. IsFrontOf (c ++ e ∷ []) q) (sym same) (subst (IsFrontOf (c ++ o.0 ∷ [])) whole (first_of_front c o.0 o.1))
         ]
 
     along : (t : ℕ) (p : Path) → Chosen h t p → t < n → (c r : Path) → c ++ r ≡ p → IsFrontOf c q → IsFrontOf (c ++ r) q
@@ -184,7 +185,7 @@ module _ (first : Conf) (h : History) where
 
     follows : (c : Path) (a : LogEntry) (r : Path) (b : LogEntry) → c ++ a ∷ r ≡ q1 → Settled h n (c ++ b ∷ []) → IsFrontOf (c ++ a ∷ []) q2
     follows c a r b is1 s =
-        let mine : IsFrontOf (c ++ a ∷ []) q1 = subst (IsFrontOf (c ++ a ∷ [])) is1 (step_of c a r) in
+        let mine : IsFrontOf (c ++ a ∷ []) q1 = subst (IsFrontOf (c ++ a ∷ [])) is1 (first_of_front c a r) in
         let pre1 : IsFrontOf (c ++ b ∷ []) q1 = begins (c ++ b ∷ []) s.path q1 s.front (holds1 s.term s.path s.chosen s.below) in
         let pre2 : IsFrontOf (c ++ b ∷ []) q2 = begins (c ++ b ∷ []) s.path q2 s.front (holds2 s.term s.path s.chosen s.below) in
         subst (λ e. IsFrontOf (c ++ e ∷ []) q2) (sym (same_next c a b q1 mine pre1)) pre2

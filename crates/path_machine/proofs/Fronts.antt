@@ -1,7 +1,7 @@
 -- Fronts of paths.
-use Rattle.std.proofs.Common.{◌≡◌, ℕ, zero, suc, ◌+◌, ◌≤◌, true, ◌&&◌, ◌==◌, ◌⊎◌, inl, inr, List, [], ◌∷◌, ◌++◌, length, take, drop, refl, sym, ap, ◌∙◌, subst, append_assoc, length-append, add-one, slice_get, bytes_eq, option_map, unwrap_or, Some, arith}
+use Rattle.std.proofs.Common.{◌≡◌, ℕ, ◌+◌, ◌≤◌, true, ◌&&◌, ◌==◌, ◌⊎◌, inl, inr, List, [], ◌∷◌, ◌++◌, length, take, drop, refl, sym, ap, ◌∙◌, subst, append_assoc, length-append, add-one, slice_get, bytes_eq, option_map, unwrap_or, Some, arith}
 use Rattle.std.proofs.lemmas.Bool.{eq-eqb, and_from}
-use Rattle.std.proofs.lemmas.List.{append-nil, append_cancel_left, take-append-drop, length_push, length-take-le}
+use Rattle.std.proofs.lemmas.List.{append-nil, append_cancel_left, take-append-drop, length_push}
 use Rattle.std.proofs.lemmas.Slice.Eq.{bytes_eq-Decides}
 use Rattle.values.specs.declared.entry.Body.{Body}
 use Rattle.values.specs.declared.entry.Body.TheVariants.{Noop, Ask, Members}
@@ -9,10 +9,7 @@ use Rattle.values.specs.declared.entry.LogEntry.{LogEntry}
 use Rattle.replica_model.specs.Path.{Path, last_term, term_at}
 use Rattle.path_machine.specs.Node.{same_body, same_entry, common}
 use Rattle.group_model.specs.Log.{IsFrontOf}
-use Rattle.agreement.specs.Promised.{IsComparable}
-
-pub begins : (p q w : Path) → IsFrontOf p q → IsFrontOf q w → IsFrontOf p w
-begins p q w a b = (a.0 ++ b.0, sym (append_assoc p a.0 b.0) ∙ (ap (λ x. x ++ b.0) a.1 ∙ b.1))
+use Rattle.agreement.proofs.Fronts.{both_fronts}
 
 pub front_refl : (p : Path) → IsFrontOf p p
 front_refl p = ([], append-nil p)
@@ -25,22 +22,6 @@ front_of k w = (drop k w, take-append-drop k w)
 
 pub front_append : (p q : Path) → IsFrontOf p (p ++ q)
 front_append p q = (q, refl)
-
--- two fronts of one path are comparable
-pub both_fronts : (p q w : Path) → IsFrontOf p w → IsFrontOf q w → IsComparable p q
-both_fronts [] q w a b = inl (q, refl)
-both_fronts (x ∷ p) [] w a b = inr (x ∷ p, refl)
-both_fronts (x ∷ p) (y ∷ q) [] a b = absurd (let none : x ∷ (p ++ a.0) ≡ [] = a.1 in cc)
-both_fronts (x ∷ p) (y ∷ q) (z ∷ w) a b =
-    let one : x ∷ (p ++ a.0) ≡ z ∷ w = a.1 in
-    let two : y ∷ (q ++ b.0) ≡ z ∷ w = b.1 in
-    let tail : p ++ a.0 ≡ w = cc in
-    let tail' : q ++ b.0 ≡ w = cc in
-    let same : x ≡ y = cc in
-    elim (both_fronts p q w (a.0, tail) (b.0, tail')) [
-      | inl pre ↦ inl (pre.0, let t : p ++ pre.0 ≡ q = pre.1 in cc)
-      | inr pre ↦ inr (pre.0, let t : q ++ pre.0 ≡ p = pre.1 in cc)
-    ]
 
 pub front_length : (p w : Path) → IsFrontOf p w → length p ≤ length w
 front_length p w pre = let long : length w ≡ length p + length pre.0 = sym (ap length pre.1) ∙ length-append p pre.0 in omega (arith, long)
@@ -68,9 +49,6 @@ same_next c a b w pa pb =
     let same : a ∷ pa.0 ≡ b ∷ pb.0 = append_cancel_left c (a ∷ pa.0) (b ∷ pb.0) (one ∙ sym two) in
     cc
 
-pub step_of : (c : Path) (a : LogEntry) (r : Path) → IsFrontOf (c ++ a ∷ []) (c ++ a ∷ r)
-step_of c a r = (r, append_assoc c (a ∷ []) r)
-
 get_push : (c : Path) (a : LogEntry) → slice_get (c ++ a ∷ []) (length c) ≡ Some a
 get_push [] a = refl
 get_push (e ∷ c) a = get_push c a
@@ -79,19 +57,6 @@ pub last_push : (c : Path) (a : LogEntry) → last_term (c ++ a ∷ []) ≡ a.te
 last_push c a =
     ap (λ n. term_at (c ++ a ∷ []) n) (length_push c a ∙ add-one (length c))
     ∙ ap (λ o. unwrap_or (option_map (λ (e : LogEntry). e.term) o) 0) (get_push c a)
-
-get_take : (k : ℕ) (p : Path) → slice_get (take (suc k) p) k ≡ slice_get p k
-get_take k [] = refl
-get_take zero (e ∷ p) = refl
-get_take (suc k) (e ∷ p) = get_take k p
-
-at_take : (i : ℕ) (p : Path) → term_at (take i p) i ≡ term_at p i
-at_take zero p = refl
-at_take (suc k) p = ap (λ o. unwrap_or (option_map (λ (e : LogEntry). e.term) o) 0) (get_take k p)
-
--- the last term of a front is the term at its index
-pub last_take : (i : ℕ) (p : Path) → i ≤ length p → last_term (take i p) ≡ term_at p i
-last_take i p le = ap (λ n. term_at (take i p) n) (length-take-le i p le) ∙ at_take i p
 
 -- a path is empty or has a last entry
 pub record Ends (p : Path) : Type 0 where

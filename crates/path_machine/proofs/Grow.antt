@@ -5,7 +5,7 @@ use Rattle.replica_model.specs.Path.{Path}
 use Rattle.group_quorum.specs.Conf.{Conf}
 use Rattle.replica_model.specs.Configs.{conf_index}
 use Rattle.group_model.specs.Log.{IsFrontOf}
-use Rattle.path_machine.proofs.Fronts.{begins}
+use Rattle.agreement.proofs.Fronts.{begins}
 use Rattle.path_machine.specs.Node.{Node, Message, AskVote, Vote, Append, Accepted, Part}
 use Rattle.path_machine.specs.Machine.{Reign, Lead, History, In, Chosen}
 use Rattle.path_machine.proofs.Good.{ledger, Settled, Sealed, Place, Known, HasAccepted, Safe, Elected, Fixed, Newer, GoodReign, GoodChoice, OfLeader, OfReign, GoodMessage, GoodHistory, below, Fits, GoodNode}

@@ -3,10 +3,10 @@ use Rattle.std.proofs.Common.{◌≡◌, ℕ, ◌<◌, ◌≤◌, ◌==◌, true
 use Rattle.std.proofs.lemmas.Bool.{and_parts, and_from, or_parts, or_cases, or_left, or_right, cond_both, cond-true, cond-false, ltb-true, ltb-false, lt-ltb, eqb-true, eqb-false, eq-eqb, ne_eqb, cases_Bool, cases_eq}
 use Rattle.std.proofs.lemmas.List.Folds.{list_any-append}
 use Rattle.group_quorum.specs.Conf.{Conf}
-use Rattle.group_quorum.specs.Voters.{is_in, first_bad, first_double, double_fault, bad_fault, fault_of, insert_rising, rising, conf_or, conf_of}
-use Rattle.group_quorum.specs.declared.ConfigFault.{ConfigFault}
+use Rattle.group_quorum.specs.Voters.{is_in, first_bad, first_double, double_fault, bad_fault, fault_of, insert_rising, rising, conf_of}
 use Rattle.group_quorum.specs.declared.ConfigFault.TheVariants.{TooMany}
 use Rattle.group_quorum.specs.declared.TheConstants.{MAX_VOTERS}
+use Rattle.group_quorum.proofs.Faults.{conf_or-made}
 use Rattle.replica_model.specs.Peers.{others}
 use Rattle.replica_model.specs.Changes.{with_voter, without_voter}
 use Rattle.path_machine.specs.Changes.{rises_from, is_rising, is_one_more, is_single_change}
@@ -188,14 +188,8 @@ no_fault margin ids = cond_both (nat_lt MAX_VOTERS (length ids)) (Some (TooMany 
     (λ b h. cc)
     (λ b h. no_bad (first_bad ids) margin ids h)
 
-made_of : (o : Option ConfigFault) (margin : ℕ) (ids : List ℕ) (c : Conf) → conf_or o margin ids ≡ Ok c → (o ≡ None) × (rising ids ≡ c.voters)
-made_of (Some fault) margin ids c h = cc
-made_of None margin ids c h =
-    let same : record { margin = margin; voters = rising ids } ≡ c = cc in
-    (refl, ap (λ (d : Conf). d.voters) same)
-
 -- a configuration that was made is in rising order
 pub made_rises : (margin : ℕ) (ids : List ℕ) (c : Conf) → conf_of margin ids ≡ Ok c → is_rising c.voters ≡ true
 made_rises margin ids c h =
-    let made = made_of (fault_of margin ids) margin ids c h in
+    let made = conf_or-made (fault_of margin ids) margin ids c h in
     subst (λ vs. is_rising vs ≡ true) made.1 (rising_rises [] ids (no_fault margin ids made.0))

@@ -9,6 +9,7 @@ use Rattle.group_quorum.specs.Voters.{is_in, first_bad, first_double, double_fau
 use Rattle.group_quorum.specs.declared.ConfigFault.{ConfigFault}
 use Rattle.group_quorum.specs.declared.ConfigFault.TheVariants.{TooFew}
 use Rattle.group_quorum.specs.declared.TheConstants.{MAX_VOTERS}
+use Rattle.group_quorum.proofs.Inserted.{insert_length, rising_length}
 use Rattle.replica_model.specs.Peers.{others}
 use Rattle.replica_model.specs.Changes.{are_few, with_voter, without_voter}
 use Rattle.trace_model.specs.TraceLines.{is_rising}
@@ -114,11 +115,6 @@ parts_of c h =
     let f = fault_few c.margin c.voters (is_nothing (fault_of c.margin c.voters) d.1) in
     record { margin = leb-true c.margin 15 a.0; few = f.0; up = rises c.voters d.0; enough = f.2 }
 
--- one more
-insert_long : (v : ℕ) (ids : List ℕ) → length (insert_rising v ids) ≡ length ids + 1
-insert_long v [] = refl
-insert_long v (w ∷ ids) = cond_both (nat_lt v w) (v ∷ w ∷ ids) (w ∷ insert_rising v ids) (λ ys. length ys ≡ length (w ∷ ids) + 1) (λ b. omega arith) (λ b. omega (arith, insert_long v ids))
-
 above_insert : (w v : ℕ) (ids : List ℕ) → w < v → EachAbove w ids → EachAbove w (insert_rising v ids)
 above_insert w v [] lt h = (lt, tt)
 above_insert w v (x ∷ ids) lt h = cond_both (nat_lt v x) (v ∷ x ∷ ids) (x ∷ insert_rising v ids) (EachAbove w) (λ b. (lt, h)) (λ b. (h.0, above_insert w v ids lt h.1))
@@ -142,7 +138,7 @@ insert_rises v (w ∷ ids) h new =
 pub admitted_conf : (c : Conf) (id : ℕ) → ConfIn c → IsId id → is_in c.voters id ≡ false → nat_le MAX_VOTERS (length c.voters) ≡ false → ConfIn (with_voter c id)
 admitted_conf c id h new fresh room =
     let p = parts_of c h in
-    let long = insert_long id c.voters in
+    let long = insert_length id c.voters in
     conf_from c.margin (insert_rising id c.voters) p.margin (omega (arith, long, leb-false MAX_VOTERS (length c.voters) room)) (insert_in id c.voters new h.ids) (insert_rises id c.voters p.up fresh) (omega (arith, long, p.enough))
 
 pub removed_conf : (c : Conf) (id : ℕ) → ConfIn c → not (is_in c.voters id) ≡ false → are_few (length c.voters - 1) c.margin ≡ false → ConfIn (without_voter c id)
@@ -210,10 +206,6 @@ rising_rises : (ids : List ℕ) → Apart ids → Rising (rising ids)
 rising_rises [] h = tt
 rising_rises (v ∷ ids) h = insert_rises v (rising ids) (rising_rises ids h.1) (in_rising ids v h.0)
 
-rising_long : (ids : List ℕ) → length (rising ids) ≡ length ids
-rising_long [] = refl
-rising_long (v ∷ ids) = omega (arith, insert_long v (rising ids), rising_long ids)
-
 rising_in : (ids : List ℕ) → AreIds ids → AreIds (rising ids)
 rising_in [] h = tt
 rising_in (v ∷ ids) h = insert_in v (rising ids) h.0 (rising_in ids h.1)
@@ -221,5 +213,5 @@ rising_in (v ∷ ids) h = insert_in v (rising ids) h.0 (rising_in ids h.1)
 pub begun_conf : (margin : ℕ) (voters : List ℕ) → margin ≤ 15 → AreIds voters → fault_of margin voters ≡ None → ConfIn (record { margin = margin; voters = rising voters })
 begun_conf margin voters le ids fine =
     let f = fault_few margin voters fine in
-    let long = rising_long voters in
+    let long = rising_length voters in
     conf_from margin (rising voters) le (omega (arith, long, f.0)) (rising_in voters ids) (rising_rises voters (apart_of [] voters f.1)) (omega (arith, long, f.2))

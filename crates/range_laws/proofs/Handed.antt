@@ -19,13 +19,14 @@ use Rattle.proto_wire.specs.Fields.{Content, Varint, Eight, Block, Four, Field, 
 use Rattle.proto_wire.specs.Reading.{u32_of, bytes_of, blocks_of, block_under, block_in, embedded, is_member, members_of, last_member, member_fault, first_fault}
 use Rattle.client_msgs.specs.Reading.{request_of, request_in, request_from, if_sized}
 use Rattle.client_msgs.specs.Sizes.{size_fault, outside, secret_fault, pin_fault, tries_fault}
+use Rattle.client_msgs.proofs.SizesLemmas.{size_fault-valid}
 use Rattle.replica_model.specs.Clients.{offset_of}
 use Rattle.schedule_model.specs.Reading.{max_u64}
 use Rattle.trace_model.specs.TraceLines.{is_byte, is_client_id, is_u64}
 use Rattle.log_laws.proofs.Ending.{all-append}
 use Rattle.range_laws.proofs.Raising.{all_filter}
 use Rattle.range_laws.proofs.Hearing.{RequestIn}
-use Rattle.range_laws.proofs.Written.{PartsIn, request_body, sized_valid}
+use Rattle.range_laws.proofs.Written.{PartsIn, request_body}
 
 abbrev Bytes : List ℕ → Type 0
 Bytes xs = IsTrue (list_all is_byte xs)
@@ -216,7 +217,7 @@ request_read n number fs h =
 
 module _ (client : ClientId) (number : ℕ) (who : IsTrue (is_client_id client && is_u64 number)) where
   sized_read : (q : Request) → PartsIn q → (o : Option (Part × ℕ)) → size_fault q ≡ o → SizeLow o → RequestIn client number (if_sized o q)
-  sized_read q parts None is low = let v = sized_valid q is in request_body client number q who v.0 v.1 parts
+  sized_read q parts None is low = let v = size_fault-valid q is in request_body client number q who v.0 v.1 parts
   sized_read q parts (Some (part, size)) is low = le-leb size max_u64 low
 
   member_read : (m : ℕ) (fault : Option WireFault) (member : Option (ℕ × List Field)) → m ≤ MAX_EVENTS → IfSome fault (λ e. offset_of e ≤ m) → IfSome member (λ x. AllByRecursion (FieldIn m) x.1) → RequestIn client number (request_in fault member)

@@ -44,6 +44,7 @@ use Rattle.replica_model.specs.Ticks.{sent_again, all_again, parts_again, leader
 use Rattle.replica_model.specs.Changes.{first_refusal, log_full, change_pending, voter_count, votes, learner_mark, are_few, join_refusal, admit_refusal, remove_refusal, margin_refusal, unless, joined, join, push_members, with_voter, without_voter, admit, remove, set_margin}
 use Rattle.trace_model.specs.TraceLines.{is_u64, is_client_id, refusal_numbers}
 use Rattle.trace_model.specs.Hashing.{GivesHashes}
+use Rattle.trace_model.proofs.Numbers.{one_number}
 use Rattle.schedule_model.specs.Reading.{max_u32}
 use Rattle.log_laws.proofs.Ending.{all-append}
 use Rattle.log_laws.proofs.Lookups.{put_cases, without_stood}
@@ -85,9 +86,6 @@ remove_tests s id = log_full s ∷ change_pending s ∷ (not (votes s id), NotVo
 
 abbrev margin_tests : Replica → ℕ → List (Bool × Refusal)
 margin_tests s margin = log_full s ∷ change_pending s ∷ ((newest s).margin == margin, SameMargin margin) ∷ (are_few (voter_count s) margin, TooFew (voter_count s)) ∷ []
-
-pub one_number : (n : ℕ) → IsTrue (is_u64 n) → IsTrue (list_all is_u64 (n ∷ []))
-one_number n h = and_from (is_u64 n) true h refl
 
 two_numbers : (a b : ℕ) → IsTrue (is_u64 a) → IsTrue (is_u64 b) → IsTrue (list_all is_u64 (a ∷ b ∷ []))
 two_numbers a b x y = and_from (is_u64 a) (list_all is_u64 (b ∷ [])) x (one_number b y)

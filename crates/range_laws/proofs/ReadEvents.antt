@@ -4,7 +4,6 @@ use Rattle.std.specs.Prelude.{IsTrue, if◌then◌else◌, nat_le, slice_index_o
 use Rattle.std.specs.List.{AllByRecursion, list_all}
 use Rattle.std.proofs.lemmas.Bool.{cond_both, and_from, le-leb, leb-true, eq-eqb, eqb-true}
 use Rattle.hex.specs.Hex.{decode_of}
-use Rattle.hex.specs.declared.error.FromHexError.{FromHexError}
 use Rattle.group_quorum.specs.Voters.{fault_of}
 use Rattle.group_quorum.specs.declared.ConfigFault.{ConfigFault}
 use Rattle.values.specs.declared.limits.TheConstants.{MAX_REQUEST}
@@ -19,9 +18,10 @@ use Rattle.record_cutting.specs.Lines.{Record}
 use Rattle.schedule_model.specs.Reading.{RecordFault, fault, ◌>>=◌, field, number_of, bytes_or_fault, replicas_from, max_u32, max_u64}
 use Rattle.schedule_model.specs.Records.{Word, event_of, some_event, event_at, word_of, has_fields, is_remark, placed, fields_as, begin_or, cause_of}
 use Rattle.schedule_model.specs.Records as word
+use Rattle.schedule_model.proofs.Reading.{number_of-range, bytes_or_fault-ok}
 use Rattle.trace_model.specs.TraceLines.{is_hash, is_client_id, is_byte}
 use Rattle.range_laws.proofs.Worlds.{IsShort}
-use Rattle.range_laws.proofs.ReadBack.{number_in_range, hex_in_range}
+use Rattle.range_laws.proofs.ReadBack.{hex_in_range}
 use Rattle.range_laws.specs.Ranges.{IsId, AreIds, EventIn, AreBytes}
 
 -- the begin event comes first, and once
@@ -48,11 +48,7 @@ ends : (P : Event → Type 0) (a e : Event) (x : Result Event RecordFault) → x
 ends P a e x p q h = let same : a ≡ e = cc in subst P same h
 
 id_in : (text : List ℕ) (k r : ℕ) → number_of text k 1 65535 ≡ Ok r → IsId r
-id_in text k r is = let x = number_in_range text k 1 65535 r is in and_from (nat_le 1 r) (nat_le r 65535) (le-leb 1 r x.0) (le-leb r 65535 x.1)
-
-hex_ok : (k : ℕ) (r : Result (List ℕ) FromHexError) (bytes : List ℕ) → bytes_or_fault k r ≡ Ok bytes → r ≡ Ok bytes
-hex_ok k (Ok b) bytes is = let same : b ≡ bytes = cc in ap Ok same
-hex_ok k (Err f) bytes is = absurd (let z : fault {T = List ℕ} cause.Hex k ≡ Ok bytes = is in cc)
+id_in text k r is = let x = number_of-range text k 1 65535 r is in and_from (nat_le 1 r) (nat_le r 65535) (le-leb 1 r x.0) (le-leb r 65535 x.1)
 
 -- a test that stands before a value
 tested : {A : Type 0} (b : Bool) (a x : A) (c : Cause) (k : ℕ) → (if b then Ok a else fault c k) ≡ Ok x → (b ≡ true) × (a ≡ x)
@@ -63,7 +59,7 @@ sized_in : (text : List ℕ) (k n : ℕ) (bytes : List ℕ) → (bytes_or_fault 
 sized_in text k n bytes is =
     let x = bind_ok (bytes_or_fault k (decode_of text)) (λ b. if length b == n then Ok b else fault cause.Hex k) bytes is in
     let t = tested (length x.0 == n) x.0 bytes cause.Hex k x.2 in
-    let h = hex_in_range text x.0 (hex_ok k (decode_of text) x.0 x.1) in
+    let h = hex_in_range text x.0 (bytes_or_fault-ok k (decode_of text) x.0 x.1) in
     (subst AreBytes t.1 h.0, ap length (sym t.1) ∙ eqb-true (length x.0) n t.0)
 
 client_in : (text : List ℕ) (k : ℕ) (c : ClientId) → ((bytes_or_fault k (decode_of text) >>= (λ b. if length b == 16 then Ok b else fault cause.Hex k)) >>= (λ b. Ok (record { 0 = b }))) ≡ Ok c → IsTrue (is_client_id c)
@@ -108,7 +104,7 @@ module _ (most : ℕ) (fields : Record) (short : AllByRecursion (λ (f : List �
   numbered : (make : ℕ → Event) (low high : ℕ) → ((k : ℕ) → low ≤ k → k ≤ high → P (make k)) → word.of_number make low high fields ≡ Ok e → P e
   numbered make low high fine is =
       let x = bind_ok (number_of (field fields 2) 2 low high) (λ r. Ok (make r)) e is in
-      let r = number_in_range (field fields 2) 2 low high x.0 x.1 in
+      let r = number_of-range (field fields 2) 2 low high x.0 x.1 in
       ends P (make x.0) e (Ok (make x.0)) refl x.2 (fine x.0 r.0 r.1)
 
   two : (make : ℕ → ℕ → Event) → ((r y : ℕ) → IsId r → IsId y → P (make r y)) → word.of_two make fields ≡ Ok e → P e
@@ -121,7 +117,7 @@ module _ (most : ℕ) (fields : Record) (short : AllByRecursion (λ (f : List �
   with_number make high fine is =
       let x = bind_ok (number_of (field fields 2) 2 1 65535) (λ r. number_of (field fields 3) 3 0 high >>= (λ i. Ok (make r i))) e is in
       let y = bind_ok (number_of (field fields 3) 3 0 high) (λ i. Ok (make x.0 i)) e x.2 in
-      ends P (make x.0 y.0) e (Ok (make x.0 y.0)) refl y.2 (fine x.0 y.0 (id_in (field fields 2) 2 x.0 x.1) (number_in_range (field fields 3) 3 0 high y.0 y.1).1)
+      ends P (make x.0 y.0) e (Ok (make x.0 y.0)) refl y.2 (fine x.0 y.0 (id_in (field fields 2) 2 x.0 x.1) (number_of-range (field fields 3) 3 0 high y.0 y.1).1)
 
   abbrev client_text : ℕ → Result ClientId RecordFault
   client_text k = (bytes_or_fault k (decode_of (field fields k)) >>= (λ b. if length b == 16 then Ok b else fault cause.Hex k)) >>= (λ b. Ok (record { 0 = b }))
@@ -136,7 +132,7 @@ module _ (most : ℕ) (fields : Record) (short : AllByRecursion (λ (f : List �
   request_in q is =
       let x = bind_ok (bytes_or_fault 5 (decode_of (field fields 5))) (λ b. if nat_le (length b) MAX_REQUEST then Ok b else fault cause.Range 5) q is in
       let t = tested (nat_le (length x.0) MAX_REQUEST) x.0 q cause.Range 5 x.2 in
-      let h = hex_in_range (field fields 5) x.0 (hex_ok 5 (decode_of (field fields 5)) x.0 x.1) in
+      let h = hex_in_range (field fields 5) x.0 (bytes_or_fault-ok 5 (decode_of (field fields 5)) x.0 x.1) in
       (subst AreBytes t.1 h.0, subst (λ (q : List ℕ). length q ≤ 65536) t.1 (leb-true (length x.0) 65536 t.0))
 
   asked : word.ask_of fields ≡ Ok e → P e
@@ -146,7 +142,7 @@ module _ (most : ℕ) (fields : Record) (short : AllByRecursion (λ (f : List �
       let z = bind_ok (number_of (field fields 4) 4 0 max_u64) (λ n. request_text >>= (λ q. Ok (event.Ask x.0 y.0 n q))) e y.2 in
       let w = bind_ok request_text (λ q. Ok (event.Ask x.0 y.0 z.0 q)) e z.2 in
       let q = request_in w.0 w.1 in
-      ends P (event.Ask x.0 y.0 z.0 w.0) e (Ok (event.Ask x.0 y.0 z.0 w.0)) refl w.2 ((id_in (field fields 2) 2 x.0 x.1, client_in (field fields 3) 3 y.0 y.1, (number_in_range (field fields 4) 4 0 max_u64 z.0 z.1).1, q.0, q.1), tt, tt)
+      ends P (event.Ask x.0 y.0 z.0 w.0) e (Ok (event.Ask x.0 y.0 z.0 w.0)) refl w.2 ((id_in (field fields 2) 2 x.0 x.1, client_in (field fields 3) 3 y.0 y.1, (number_of-range (field fields 4) 4 0 max_u64 z.0 z.1).1, q.0, q.1), tt, tt)
 
   stored : word.store_of fields ≡ Ok e → P e
   stored is =
@@ -154,9 +150,9 @@ module _ (most : ℕ) (fields : Record) (short : AllByRecursion (λ (f : List �
       let y = bind_ok (bytes_or_fault 4 (decode_of (field fields 4))) (λ s. pin_text 5 >>= (λ p. number_of (field fields 6) 6 0 max_u32 >>= (λ t. Ok (event.Want x.0 (want.Store s p t))))) e x.2 in
       let z = bind_ok (pin_text 5) (λ p. number_of (field fields 6) 6 0 max_u32 >>= (λ t. Ok (event.Want x.0 (want.Store y.0 p t)))) e y.2 in
       let w = bind_ok (number_of (field fields 6) 6 0 max_u32) (λ t. Ok (event.Want x.0 (want.Store y.0 z.0 t))) e z.2 in
-      let h = hex_in_range (field fields 4) y.0 (hex_ok 4 (decode_of (field fields 4)) y.0 y.1) in
+      let h = hex_in_range (field fields 4) y.0 (bytes_or_fault-ok 4 (decode_of (field fields 4)) y.0 y.1) in
       ends P (event.Want x.0 (want.Store y.0 z.0 w.0)) e (Ok (event.Want x.0 (want.Store y.0 z.0 w.0))) refl w.2
-      ((client_in (field fields 2) 2 x.0 x.1, (h.0, pin_in (field fields 5) 5 z.0 z.1, (number_in_range (field fields 6) 6 0 max_u32 w.0 w.1).1)), omega (arith, h.1, field_low most fields 3 short), tt)
+      ((client_in (field fields 2) 2 x.0 x.1, (h.0, pin_in (field fields 5) 5 z.0 z.1, (number_of-range (field fields 6) 6 0 max_u32 w.0 w.1).1)), omega (arith, h.1, field_low most fields 3 short), tt)
 
   recovered : word.recover_of fields ≡ Ok e → P e
   recovered is =
@@ -179,7 +175,7 @@ module _ (most : ℕ) (fields : Record) (short : AllByRecursion (λ (f : List �
   heard is =
       let x = bind_ok (client_text 2) (λ c. number_of (field fields 3) 3 1 max_u64 >>= (λ r. Ok (event.Hear c r))) e is in
       let y = bind_ok (number_of (field fields 3) 3 1 max_u64) (λ r. Ok (event.Hear x.0 r)) e x.2 in
-      let r = number_in_range (field fields 3) 3 1 max_u64 y.0 y.1 in
+      let r = number_of-range (field fields 3) 3 1 max_u64 y.0 y.1 in
       ends P (event.Hear x.0 y.0) e (Ok (event.Hear x.0 y.0)) refl y.2 ((client_in (field fields 2) 2 x.0 x.1, r.0, r.1), tt, tt)
 
   begun_so : (o : Option ConfigFault) (margin limit : ℕ) (voters : List ℕ) → fault_of margin voters ≡ o → begin_or o margin limit voters ≡ Ok e → margin ≤ 15 → 1 ≤ limit → limit ≤ 20000 → AreIds voters → IsReadAs most false e
@@ -191,8 +187,8 @@ module _ (most : ℕ) (fields : Record) (short : AllByRecursion (λ (f : List �
       let x = bind_ok (number_of (field fields 2) 2 0 15) (λ m. number_of (field fields 3) 3 1 20000 >>= (λ l. replicas_from 4 (drop 3 fields) >>= (λ vs. begin_or (fault_of m vs) m l vs))) e is in
       let y = bind_ok (number_of (field fields 3) 3 1 20000) (λ l. replicas_from 4 (drop 3 fields) >>= (λ vs. begin_or (fault_of x.0 vs) x.0 l vs)) e x.2 in
       let z = bind_ok (replicas_from 4 (drop 3 fields)) (λ vs. begin_or (fault_of x.0 vs) x.0 y.0 vs) e y.2 in
-      let r = number_in_range (field fields 3) 3 1 20000 y.0 y.1 in
-      begun_so (fault_of x.0 z.0) x.0 y.0 z.0 refl z.2 (number_in_range (field fields 2) 2 0 15 x.0 x.1).1 r.0 r.1 (replicas_in 4 (drop 3 fields) z.0 z.1)
+      let r = number_of-range (field fields 3) 3 1 20000 y.0 y.1 in
+      begun_so (fault_of x.0 z.0) x.0 y.0 z.0 refl z.2 (number_of-range (field fields 2) 2 0 15 x.0 x.1).1 r.0 r.1 (replicas_in 4 (drop 3 fields) z.0 z.1)
 
   -- any other word, once the group has begun
   abbrev NoBegin : Word → Type 0

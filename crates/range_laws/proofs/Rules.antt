@@ -24,13 +24,11 @@ use Rattle.values.specs.declared.message.Reply.{Reply}
 use Rattle.values.specs.declared.message.Reply.TheVariants.{Stale, TableFull}
 use Rattle.values.specs.declared.row.Row.{Row}
 use Rattle.values.specs.declared.row.Kept.{Kept}
-use Rattle.std.specs.declared.cmp.Ordering.{Ordering}
 use Rattle.std.specs.declared.cmp.Ordering.TheVariants as order
-use Rattle.std.specs.Ordering.{match_ordering}
-use Rattle.record_rules.specs.Clients.{client_cmp}
-use Rattle.record_rules.specs.Table.{RecordTable, empty_table, row_of, put_row}
+use Rattle.record_rules.specs.Table.{RecordTable, empty_table, row_of}
 use Rattle.record_rules.specs.Places.{ClientAsk, apply_place}
 use Rattle.record_rules.specs.Rules.{act, after_acting, ask_known, ask_unknown, apply_by}
+use Rattle.record_rules.proofs.Sound.{length_put}
 use Rattle.replica_model.specs.Folds.{place_of, places_of}
 use Rattle.values.specs.declared.peer.PeerMsg.{PeerMsg}
 use Rattle.values.specs.declared.peer.PeerMsg.TheVariants.{AskVote, Vote, Accepted, Rejected}
@@ -66,17 +64,8 @@ term_in n p (suc k) h = found p k h
     found (e ∷ p) (suc k) h = found p k h.1
 
 -- the parts of a table
-put_few : (rows : List Row) (row : Row) → length (put_row rows row) ≤ length rows + 1
-put_few [] row = omega arith
-put_few (r ∷ rows) row = by_order (client_cmp row.client r.client) (put_few rows row)
-  where
-    by_order : (o : Ordering) → length (put_row rows row) ≤ length rows + 1 → length (match_ordering o (row ∷ r ∷ rows) (row ∷ rows) (r ∷ put_row rows row)) ≤ length (r ∷ rows) + 1
-    by_order order.Less h = omega arith
-    by_order order.Equal h = omega arith
-    by_order order.Greater h = omega (arith, h)
-
 acting_few : (t : RecordTable) (c : ClientId) (n : ℕ) (x : Option Kept × Response) → length (after_acting t c n x).0.rows ≤ length t.rows + 1
-acting_few t c n (k, r) = put_few t.rows (record { client = c; last = n; kept = k })
+acting_few t c n (k, r) = length_put t.rows (record { client = c; last = n; kept = k })
 
 known_few : (t : RecordTable) (c : ClientId) (n : ℕ) (q : Request) (row : Row) → length (ask_known t c n q row).0.rows ≤ length t.rows + 1
 known_few t c n q row = cond_both (nat_le n row.last) (t, Stale row.last) (after_acting t c n (act q row.kept)) (λ (x : RecordTable × Reply). length x.0.rows ≤ length t.rows + 1) (λ b. omega arith) (λ b. acting_few t c n (act q row.kept))

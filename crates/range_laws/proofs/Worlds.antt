@@ -24,9 +24,10 @@ use Rattle.values.specs.Sizes.{IsValid}
 use Rattle.values.specs.declared.message.Request.{Request}
 use Rattle.client_msgs.proofs.RoundTrip.{request_of-canonical}
 use Rattle.range_laws.proofs.Handed.{handed_in as what_is_handed}
-use Rattle.range_laws.proofs.Written.{PartsIn, request_body, sized_valid}
+use Rattle.range_laws.proofs.Written.{PartsIn, request_body}
 use Rattle.client_msgs.specs.Reading.{request_of}
 use Rattle.client_msgs.specs.Sizes.{FitsRequest, size_fault, outside, secret_fault, pin_fault, tries_fault}
+use Rattle.client_msgs.proofs.SizesLemmas.{size_fault-valid}
 use Rattle.std.specs.Option.{option_or}
 use Rattle.values.specs.declared.message.Part.{Part}
 use Rattle.values.specs.declared.message.Reply.{Reply}
@@ -51,13 +52,14 @@ use Rattle.group_model.specs.Happens.{Came, Refused, Replied, Reported, Passed, 
 use Rattle.group_model.specs.Run.{Enclaves, World, moves, enclaves}
 use Rattle.trace_model.specs.TraceLines.{is_byte, is_hash, is_response, is_u32, is_u64, is_client_id, refusal_numbers, group_refusal_numbers}
 use Rattle.trace_model.specs.Hashing.{GivesHashes}
+use Rattle.trace_model.proofs.Numbers.{one_number}
 use Rattle.log_laws.proofs.Ending.{all-append}
 use Rattle.log_laws.proofs.History.{all_more}
 use Rattle.log_laws.proofs.Lookups.{put_cases}
 use Rattle.log_laws.proofs.Moving.{all_get}
 use Rattle.range_laws.proofs.Bounds.{call_later, answer_later, state_later, message_later, still_in}
 use Rattle.range_laws.proofs.Rules.{u64_of, id_low, refusing}
-use Rattle.range_laws.proofs.Hearing.{RequestIn, one_number}
+use Rattle.range_laws.proofs.Hearing.{RequestIn}
 use Rattle.range_laws.proofs.Stepping.{InputIn, step_in}
 use Rattle.range_laws.specs.Laws.{RecordedIn}
 use Rattle.range_laws.specs.Ranges.{AnswerIn, AnsweredIn, AreBytes, AreIds, BatchIn, CallIn, FirstIn, IsId, MessageIn, MsgIn, ReplyIn, ResponseIn, SentIn, StateIn, WantIn}
@@ -169,13 +171,13 @@ flight_in client last f who fine = by_exposes f.exposes
     parts_in want.Erase h = tt
 
     second_in : (w : Want) → WantIn w → size_fault (first_request w) ≡ None → RequestIn client f.number (request_of (canonical_request (Rattle.schedule_model.specs.Client.second_request w)))
-    second_in (want.Store secret pin tries) h is = let v = sized_valid (first_request (want.Store secret pin tries)) is in in_request (Rattle.values.specs.declared.message.Request.TheVariants.Expose secret) (v.0.0, tt) h.0
-    second_in (want.Recover pin) h is = in_request (first_request (want.Recover pin)) (sized_valid (first_request (want.Recover pin)) is) (parts_in (want.Recover pin) h)
-    second_in want.Erase h is = in_request (first_request want.Erase) (sized_valid (first_request want.Erase) is) tt
+    second_in (want.Store secret pin tries) h is = let v = size_fault-valid (first_request (want.Store secret pin tries)) is in in_request (Rattle.values.specs.declared.message.Request.TheVariants.Expose secret) (v.0.0, tt) h.0
+    second_in (want.Recover pin) h is = in_request (first_request (want.Recover pin)) (size_fault-valid (first_request (want.Recover pin)) is) (parts_in (want.Recover pin) h)
+    second_in want.Erase h is = in_request (first_request want.Erase) (size_fault-valid (first_request want.Erase) is) tt
 
     by_exposes : (b : Bool) → RequestIn client f.number (request_of (canonical_request (cond b (Rattle.schedule_model.specs.Client.second_request f.want) (first_request f.want))))
     by_exposes true = second_in f.want fine.want_in fine.sized
-    by_exposes false = in_request (first_request f.want) (sized_valid (first_request f.want) fine.sized) (parts_in f.want fine.want_in)
+    by_exposes false = in_request (first_request f.want) (size_fault-valid (first_request f.want) fine.sized) (parts_in f.want fine.want_in)
 
 need_some : (w : Want) → 1 ≤ client.numbers_needed w
 need_some (want.Store secret pin tries) = omega arith

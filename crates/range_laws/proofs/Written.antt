@@ -1,65 +1,43 @@
 -- How long requests and responses are as they are written, and that their bytes are bytes.
-use Rattle.std.proofs.Common.{◌≡◌, ℕ, ◌+◌, ◌*◌, ◌/◌, ◌%◌, ◌<◌, ◌≤◌, ◌&&◌, zero, suc, Option, Some, None, List, [], ◌∷◌, ◌++◌, length, refl, sym, subst, ◌∙◌, arith, inl, inr}
-use Rattle.std.specs.Prelude.{IsTrue, nat_lt, nat_le}
+use Rattle.std.proofs.Common.{ℕ, ◌+◌, ◌*◌, ◌<◌, ◌≤◌, ◌&&◌, List, [], ◌∷◌, ◌++◌, length, refl, sym, subst, arith, inl, inr}
+use Rattle.std.specs.Prelude.{IsTrue}
 use Rattle.std.specs.List.{list_all}
-use Rattle.std.specs.Option.{option_or}
-use Rattle.std.proofs.lemmas.Bool.{cond_both, and_from, and_parts, lt-ltb, cases_lt, cases_Bool, cond-false, leb-true}
+use Rattle.std.proofs.lemmas.Bool.{and_from, and_parts, lt-ltb, cases_lt}
 use Rattle.std.proofs.lemmas.List.{length-append}
-use Rattle.std.proofs.lemmas.Option.{none-some}
 use Rattle.values.specs.Sizes.{IsValid}
 use Rattle.values.specs.declared.entry.Body.TheVariants.{Ask}
 use Rattle.values.specs.declared.ids.ClientId.{ClientId}
-use Rattle.values.specs.declared.message.Part.{Part}
 use Rattle.values.specs.declared.message.Request.{Request}
 use Rattle.values.specs.declared.message.Request.TheVariants.{Backup, Restore, Delete, Expose}
 use Rattle.values.specs.declared.message.Response.{Response}
 use Rattle.values.specs.declared.message.Response.TheVariants as response
-use Rattle.proto_wire.specs.Varint.{groups, varint}
-use Rattle.proto_wire.specs.Written.{tag, message_field, block_field, varint_field}
+use Rattle.proto_wire.specs.Written.{message_field, block_field, varint_field}
+use Rattle.proto_wire.proofs.FieldTrip.{varint_field-few, block_field-few, message_field-few}
 use Rattle.client_msgs.specs.Canonical.{canonical_request, canonical_response, request_fields}
-use Rattle.client_msgs.specs.Sizes.{FitsRequest, size_fault, outside, secret_fault, pin_fault, tries_fault}
+use Rattle.client_msgs.specs.Sizes.{FitsRequest}
 use Rattle.client_msgs.specs.Strict.{IsCanonical}
 use Rattle.client_msgs.proofs.StrictLemmas.{message-short, block-short, tries-low, tries-high}
 use Rattle.trace_model.specs.TraceLines.{is_byte, is_client_id, is_u64}
 use Rattle.range_laws.specs.Ranges.{BodyIn, ResponseIn}
 
 -- ---- lengths
-groups_short : (k n : ℕ) → length (groups k n) ≤ k + 1
-unfolding groups
-groups_short zero n = omega arith
-groups_short (suc k) n = cond_both (nat_lt n 128) (n ∷ []) ((128 + n % 128) ∷ groups k (n / 128)) (λ xs. length xs ≤ suc k + 1) (λ b. omega arith) (λ b. omega (arith, groups_short k (n / 128)))
-
-varint_long : (n : ℕ) → length (varint n) ≤ 10
-varint_long n = groups_short 9 n
-
-message_long : (number : ℕ) (bytes : List ℕ) → length (message_field number bytes) ≤ 20 + length bytes
-message_long number bytes = omega (arith, length-append (tag number 2 ++ varint (length bytes)) bytes, length-append (tag number 2) (varint (length bytes) ++ bytes), length-append (varint (length bytes)) bytes, length-append (tag number 2) (varint (length bytes)), varint_long (8 * number + 2), varint_long (length bytes))
-
-block_long : (number : ℕ) (bytes : List ℕ) → length (block_field number bytes) ≤ 20 + length bytes
-block_long number [] = omega arith
-block_long number (b ∷ bytes) = message_long number (b ∷ bytes)
-
-number_long : (number n : ℕ) → length (varint_field number n) ≤ 20
-number_long number zero = omega arith
-number_long number (suc n) = omega (arith, length-append (tag number 0) (varint (suc n)), varint_long (8 * number + 0), varint_long (suc n))
-
 request_long : (q : Request) → IsValid q → FitsRequest q → length (canonical_request q) ≤ 200
 request_long (Backup secret pin tries) v f =
     let body = request_fields (Backup secret pin tries) in
-    omega (arith, message_long 2 body, length-append (block_field 1 secret ++ block_field 2 pin.0) (varint_field 3 tries), length-append (block_field 1 secret) (block_field 2 pin.0), length-append (block_field 1 secret) (block_field 2 pin.0 ++ varint_field 3 tries), length-append (block_field 2 pin.0) (varint_field 3 tries), block_long 1 secret, block_long 2 pin.0, number_long 3 tries, v.0.1, f)
-request_long (Restore pin) v f = omega (arith, message_long 3 (block_field 1 pin.0), block_long 1 pin.0, f)
-request_long Delete v f = omega (arith, message_long 4 [])
-request_long (Expose secret) v f = omega (arith, message_long 5 (block_field 1 secret), block_long 1 secret, v.1)
+    omega (arith, message_field-few 2 body, length-append (block_field 1 secret ++ block_field 2 pin.0) (varint_field 3 tries), length-append (block_field 1 secret) (block_field 2 pin.0), length-append (block_field 1 secret) (block_field 2 pin.0 ++ varint_field 3 tries), length-append (block_field 2 pin.0) (varint_field 3 tries), block_field-few 1 secret, block_field-few 2 pin.0, varint_field-few 3 tries, v.0.1, f)
+request_long (Restore pin) v f = omega (arith, message_field-few 3 (block_field 1 pin.0), block_field-few 1 pin.0, f)
+request_long Delete v f = omega (arith, message_field-few 4 [])
+request_long (Expose secret) v f = omega (arith, message_field-few 5 (block_field 1 secret), block_field-few 1 secret, v.1)
 
 pub canonical_short : (bytes : List ℕ) → IsCanonical bytes → length bytes ≤ 200
 canonical_short bytes h = subst (λ (x : List ℕ). length x ≤ 200) (sym h.1.1.1) (request_long h.0 h.1.0 h.1.1.0)
 
 pub response_short : (r : Response) → ResponseIn r → length (canonical_response r) ≤ 200
-response_short (response.Backup status) h = omega (arith, message_long 1 (varint_field 1 status), number_long 1 status)
+response_short (response.Backup status) h = omega (arith, message_field-few 1 (varint_field 1 status), varint_field-few 1 status)
 response_short (response.Restore status secret tries) h =
-    omega (arith, message_long 2 (varint_field 1 status ++ block_field 2 secret ++ varint_field 3 tries), length-append (varint_field 1 status ++ block_field 2 secret) (varint_field 3 tries), length-append (varint_field 1 status) (block_field 2 secret), length-append (varint_field 1 status) (block_field 2 secret ++ varint_field 3 tries), length-append (block_field 2 secret) (varint_field 3 tries), number_long 1 status, block_long 2 secret, number_long 3 tries, h)
-response_short response.Delete h = omega (arith, message_long 3 [])
-response_short (response.Expose status) h = omega (arith, message_long 4 (varint_field 1 status), number_long 1 status)
+    omega (arith, message_field-few 2 (varint_field 1 status ++ block_field 2 secret ++ varint_field 3 tries), length-append (varint_field 1 status ++ block_field 2 secret) (varint_field 3 tries), length-append (varint_field 1 status) (block_field 2 secret), length-append (varint_field 1 status) (block_field 2 secret ++ varint_field 3 tries), length-append (block_field 2 secret) (varint_field 3 tries), varint_field-few 1 status, block_field-few 2 secret, varint_field-few 3 tries, h)
+response_short response.Delete h = omega (arith, message_field-few 3 [])
+response_short (response.Expose status) h = omega (arith, message_field-few 4 (varint_field 1 status), varint_field-few 1 status)
 
 -- ---- bytes
 abbrev Bytes : List ℕ → Type 0
@@ -113,24 +91,3 @@ pub request_body : (client : ClientId) (number : ℕ) (q : Request) → IsTrue (
 request_body client number q who v f h =
     let p = and_parts (is_client_id client) (is_u64 number) who in
     (and_from (is_client_id client) (is_u64 number && list_all is_byte (canonical_request q)) p.0 (and_from (is_u64 number) (list_all is_byte (canonical_request q)) p.1 (request_bytes q v f h)), (q, (v, (f, refl))))
-
--- ---- sizes
-within_sizes : (part : Part) (least most size : ℕ) → outside part least most size ≡ None → (least ≤ size) × (size ≤ most)
-within_sizes part least most size is = elim (cases_Bool (nat_le least size && nat_le size most)) [
-  | inl holds ↦ let p = and_parts (nat_le least size) (nat_le size most) holds in (leb-true least size p.0, leb-true size most p.1)
-  | inr fails ↦ absurd (none-some (part, size) (sym is ∙ cond-false (nat_le least size && nat_le size most) None (Some (part, size)) fails))
-]
-
-either_none : (a b : Option (Part × ℕ)) → option_or a b ≡ None → (a ≡ None) × (b ≡ None)
-either_none None b is = (refl, is)
-either_none (Some fault) b is = absurd (none-some fault (sym is))
-
-pub sized_valid : (q : Request) → size_fault q ≡ None → IsValid q × FitsRequest q
-sized_valid (Backup secret pin tries) is =
-    let a = either_none (secret_fault secret) (option_or (pin_fault pin) (tries_fault tries)) is in
-    let b = either_none (pin_fault pin) (tries_fault tries) a.1 in
-    let p = within_sizes _ 32 32 (length pin.0) b.0 in
-    ((within_sizes _ 16 48 (length secret) a.0, within_sizes _ 1 255 tries b.1), omega (arith, p))
-sized_valid (Restore pin) is = let p = within_sizes _ 32 32 (length pin.0) is in (tt, omega (arith, p))
-sized_valid Delete is = (tt, tt)
-sized_valid (Expose secret) is = (within_sizes _ 16 48 (length secret) is, tt)

@@ -1,10 +1,9 @@
 -- Every run keeps what it keeps of one client.
-use Rattle.std.proofs.Common.{◌≡◌, ℕ, inl, inr, suc, not, Bool, true, false, Option, Some, None, Ok, List, [], ◌∷◌, ◌++◌, map, refl, sym, ap, ◌∙◌, subst}
-use Rattle.std.specs.Prelude.{unwrap_or, find, option_map, if◌then◌else◌}
+use Rattle.std.proofs.Common.{◌≡◌, ℕ, inl, inr, suc, not, true, false, Option, Some, None, Ok, List, [], ◌∷◌, ◌++◌, map, sym, ap, ◌∙◌, subst}
+use Rattle.std.specs.Prelude.{unwrap_or}
 use Rattle.std.specs.List.{AllByRecursion}
-use Rattle.std.proofs.lemmas.Bool.{cases_Bool, cond-true, cond-false}
+use Rattle.std.proofs.lemmas.Bool.{cases_Bool}
 use Rattle.std.proofs.lemmas.List.{append-nil}
-use Rattle.std.proofs.lemmas.Slice.Eq.{bytes_eq-Decides}
 use Rattle.group_quorum.specs.Conf.{Conf}
 use Rattle.values.specs.declared.event.Event.{Event}
 use Rattle.values.specs.declared.ids.ClientId.{ClientId}
@@ -21,42 +20,15 @@ use Rattle.group_model.specs.Happens as happening
 use Rattle.group_model.specs.Run.{Enclaves, World, moves, newly, start_enclave, enclaves, run}
 use Rattle.group_model.specs.Log.{outcomes_in}
 use Rattle.group_model.specs.Reports.{Names, IsOnlySaid}
+use Rattle.group_model.proofs.Cores.{same_client, client_self, core_of-put_same, core_of-put_other}
 use Rattle.log_laws.proofs.History.{with_call}
 use Rattle.log_laws.proofs.Moving.{all_numbered}
 use Rattle.event_walk.specs.Cases.{Handing, Asked, Said, handed, Survives}
 use Rattle.event_walk.proofs.Walk as walk
 use Rattle.report_laws.proofs.Kept.{InputSaid, Listed, Follows, call_follows, wanted_follows, heard_follows, stays_follows, say_follows}
 
-same_client : (a b : ClientId) → is_client a b ≡ true → a ≡ b
-same_client a b h = let bytes : a.0 ≡ b.0 = (bytes_eq-Decides a.0 b.0).0 h in ap (λ bs. record { 0 = bs }) bytes
-
-client_self : (a : ClientId) → is_client a a ≡ true
-client_self a = (bytes_eq-Decides a.0 a.0).1 refl
-
 abbrev pub core_for : List (ClientId × Core) → ClientId → Core
 core_for cores c = unwrap_or (core_of cores c) new_core
-
-put_same : (cores : List (ClientId × Core)) (c : ClientId) (core : Core) → core_of (put_core cores c core) c ≡ Some core
-put_same [] c core = ap (option_map (λ (x : ClientId × Core). x.1)) (cond-true (is_client c c) (Some (c, core)) None (client_self c))
-put_same (x ∷ xs) c core = by_head (is_client x.0 c) refl (put_same xs c core)
-  where
-    by_head : (b : Bool) → is_client x.0 c ≡ b → core_of (put_core xs c core) c ≡ Some core → core_of (if b then (c, core) ∷ xs else x ∷ put_core xs c core) c ≡ Some core
-    by_head true is rest = ap (option_map (λ (x : ClientId × Core). x.1)) (cond-true (is_client c c) (Some (c, core)) (find (λ x. is_client x.0 c) xs) (client_self c))
-    by_head false is rest = ap (option_map (λ (x : ClientId × Core). x.1)) (cond-false (is_client x.0 c) (Some x) (find (λ x. is_client x.0 c) (put_core xs c core)) is) ∙ rest
-
-put_other : (cores : List (ClientId × Core)) (d c : ClientId) (core : Core) → is_client d c ≡ false → core_of (put_core cores d core) c ≡ core_of cores c
-put_other [] d c core other = ap (option_map (λ (x : ClientId × Core). x.1)) (cond-false (is_client d c) (Some (d, core)) None other)
-put_other (x ∷ xs) d c core other = by_head (is_client x.0 d) refl (by_rest (is_client x.0 c) refl (put_other xs d c core other))
-  where
-    by_rest : (b : Bool) → is_client x.0 c ≡ b → core_of (put_core xs d core) c ≡ core_of xs c → option_map (λ (x : ClientId × Core). x.1) (if b then Some x else find (λ x. is_client x.0 c) (put_core xs d core)) ≡ option_map (λ (x : ClientId × Core). x.1) (if b then Some x else find (λ x. is_client x.0 c) xs)
-    by_rest true is rest = refl
-    by_rest false is rest = rest
-
-    by_head : (b : Bool) → is_client x.0 d ≡ b → core_of (x ∷ put_core xs d core) c ≡ core_of (x ∷ xs) c → core_of (if b then (d, core) ∷ xs else x ∷ put_core xs d core) c ≡ core_of (x ∷ xs) c
-    by_head true is rest =
-        ap (option_map (λ (x : ClientId × Core). x.1)) (cond-false (is_client d c) (Some (d, core)) (find (λ x. is_client x.0 c) xs) other
-        ∙ sym (cond-false (is_client x.0 c) (Some x) (find (λ x. is_client x.0 c) xs) (subst (λ y. is_client y c ≡ false) (sym (same_client x.0 d is)) other)))
-    by_head false is rest = rest
 
 module _ (c : ClientId) where
   abbrev pub WorldFollows : World → Type 0
@@ -78,8 +50,8 @@ module _ (c : ClientId) (g : World) (k : WorldFollows c g) where
   put_follows : (d : ClientId) (core : Core) (hearings : List Hearing) → (d ≡ c → IsOnlySaid g c → Follows c core g.answers hearings g.field.history) → (is_client d c ≡ false → IsOnlySaid g c → Follows c (core_for g.cores c) g.answers hearings g.field.history) → IsOnlySaid g c → Follows c (core_for (put_core g.cores d core) c) g.answers hearings g.field.history
   put_follows d core hearings mine others only = elim (cases_Bool (is_client d c)) [
     | inl is ↦ subst (λ o. Follows c (unwrap_or o new_core) g.answers hearings g.field.history)
-        (sym (subst (λ e. core_of (put_core g.cores e core) c ≡ Some core) (sym (same_client d c is)) (put_same g.cores c core))) (mine (same_client d c is) only)
-    | inr not ↦ subst (λ o. Follows c (unwrap_or o new_core) g.answers hearings g.field.history) (sym (put_other g.cores d c core not)) (others not only)
+        (sym (subst (λ e. core_of (put_core g.cores e core) c ≡ Some core) (sym (same_client d c is)) (core_of-put_same g.cores c core))) (mine (same_client d c is) only)
+    | inr not ↦ subst (λ o. Follows c (unwrap_or o new_core) g.answers hearings g.field.history) (sym (core_of-put_other g.cores d c core not)) (others not only)
   ]
 
   wants : (d : ClientId) (want : Want) (core : Core) → wanted (core_for g.cores d) want ≡ Ok core → WorldFollows c (record g { cores = put_core g.cores d core })

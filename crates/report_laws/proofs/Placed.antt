@@ -1,26 +1,23 @@
 -- The place of the log at which the request in flight was answered.
-use Rattle.std.proofs.Common.{◌≡◌, ℕ, ◌≤◌, ◌&&◌, inl, inr, Option, Some, None, Result, Ok, List, [], ◌∷◌, length, refl, sym, ap, subst, ◌∙◌, arith}
-use Rattle.std.specs.Prelude.{nat_le, IsSomeAnd}
+use Rattle.std.proofs.Common.{◌≡◌, ℕ, inl, inr, Option, Some, None, Result, Ok, List, [], ◌∷◌, sym, ap, subst, ◌∙◌}
+use Rattle.std.specs.Prelude.{IsSomeAnd}
 use Rattle.std.specs.List.{AllByRecursion}
-use Rattle.std.specs.Option.{option_or}
-use Rattle.std.proofs.lemmas.Bool.{cases_Bool, cond_both, cond-false, and_parts, leb-true}
-use Rattle.std.proofs.lemmas.Option.{none-some}
+use Rattle.std.proofs.lemmas.Bool.{cond_both}
 use Rattle.values.specs.Sizes.{IsValid}
 use Rattle.values.specs.declared.entry.Hash.{Hash}
 use Rattle.values.specs.declared.ids.ClientId.{ClientId}
-use Rattle.values.specs.declared.message.Part.{Part}
-use Rattle.values.specs.declared.message.Part.TheVariants.{Secret, Pin, Tries}
 use Rattle.values.specs.declared.message.Reply.{Reply}
 use Rattle.values.specs.declared.message.Reply.TheVariants.{Applied}
 use Rattle.values.specs.declared.message.Request.{Request}
-use Rattle.values.specs.declared.message.Request.TheVariants.{Backup, Restore, Delete, Expose}
+use Rattle.values.specs.declared.message.Request.TheVariants.{Backup, Restore, Expose}
 use Rattle.values.specs.declared.message.Response.TheVariants.{Restore as Restored}
 use Rattle.values.specs.declared.want.Want.{Want}
 use Rattle.values.specs.declared.want.Want.TheVariants as want
 use Rattle.client_msgs.specs.Canonical.{canonical_request}
 use Rattle.client_msgs.specs.Reading.{request_of}
-use Rattle.client_msgs.specs.Sizes.{outside, secret_fault, pin_fault, tries_fault, size_fault, FitsRequest}
+use Rattle.client_msgs.specs.Sizes.{size_fault, FitsRequest}
 use Rattle.client_msgs.specs.declared.fault.RequestFault.{RequestFault}
+use Rattle.client_msgs.proofs.SizesLemmas.{size_fault-valid}
 use Rattle.record_rules.specs.declared.status.TheConstants.{OK}
 use Rattle.record_rules.specs.Places.{ask_at, reply_at}
 use Rattle.record_rules.specs.Laws.{Earned}
@@ -37,34 +34,15 @@ abbrev pub ReadAgain : Type 0
 ReadAgain = (request : Request) → IsValid request → FitsRequest request → request_of (canonical_request request) ≡ Ok request
 
 -- ---- what is said is read
-in_range : (part : Part) (least most size : ℕ) → outside part least most size ≡ None → (least ≤ size) × (size ≤ most)
-in_range part least most size is = elim (cases_Bool (nat_le least size && nat_le size most)) [
-  | inl holds ↦ let parts = and_parts (nat_le least size) (nat_le size most) holds in (leb-true least size parts.0, leb-true size most parts.1)
-  | inr fails ↦ absurd (none-some (part, size) (sym is ∙ cond-false (nat_le least size && nat_le size most) None (Some (part, size)) fails))
-]
-
-neither : (a b : Option (Part × ℕ)) → option_or a b ≡ None → (a ≡ None) × (b ≡ None)
-neither None b is = (refl, is)
-neither (Some fault) b is = absurd (none-some fault (sym is))
-
-pin_fits : (pin : Hash) → pin_fault pin ≡ None → length pin.0 ≡ 32
-pin_fits pin is = let range = in_range Pin 32 32 (length pin.0) is in omega (arith, range.0, range.1)
-
 module _ (again : ReadAgain) where
   abbrev Reads : Request → Type 0
   Reads request = request_of (canonical_request request) ≡ Ok request
 
   first_reads : (w : Want) → size_fault (first_request w) ≡ None → Reads (first_request w)
-  first_reads (want.Store secret pin tries) is =
-      let parts = neither (secret_fault secret) (option_or (pin_fault pin) (tries_fault tries)) is in
-      let rest = neither (pin_fault pin) (tries_fault tries) parts.1 in
-      again (Backup secret pin tries) (in_range Secret 16 48 (length secret) parts.0, in_range Tries 1 255 tries rest.1) (pin_fits pin rest.0)
-  first_reads (want.Recover pin) is = again (Restore pin) tt (pin_fits pin is)
-  first_reads want.Erase is = again Delete tt tt
+  first_reads w is = let sized = size_fault-valid (first_request w) is in again (first_request w) sized.0 sized.1
 
   second_reads : (w : Want) → size_fault (first_request w) ≡ None → Reads (second_request w)
-  second_reads (want.Store secret pin tries) is =
-      again (Expose secret) (in_range Secret 16 48 (length secret) (neither (secret_fault secret) (option_or (pin_fault pin) (tries_fault tries)) is).0) tt
+  second_reads (want.Store secret pin tries) is = again (Expose secret) (size_fault-valid (Backup secret pin tries) is).0.0 tt
   second_reads (want.Recover pin) is = first_reads (want.Recover pin) is
   second_reads want.Erase is = first_reads want.Erase is
 
