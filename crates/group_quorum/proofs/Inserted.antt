@@ -1,10 +1,11 @@
--- An id put at its place among rising ones.
-use Rattle.std.proofs.Common.{◌≡◌, ℕ, suc, ◌+◌, Bool, not, nat_lt, ltb, inl, inr, List, [], ◌∷◌, length, refl, sym, ap, ◌∙◌, arith}
+-- An id put at its place among rising ones, and ids put in rising order.
+use Rattle.std.proofs.Common.{◌≡◌, ℕ, suc, ◌+◌, Bool, true, false, not, ◌||◌, nat_lt, ltb, eqb, ◌⊎◌, inl, inr, List, [], ◌∷◌, ◌++◌, length, refl, sym, ap, ◌∙◌, arith}
 use Rattle.std.specs.Prelude.{All}
 use Rattle.std.specs.List.{position_or_len, insert}
-use Rattle.std.proofs.lemmas.Bool.{cases_Bool, cond_both, cond-true, cond-false, not_from_true, not_from_false}
+use Rattle.std.proofs.lemmas.Bool.{cases_Bool, cond_both, cond-true, cond-false, not_from_true, not_from_false, or_cases, eqb-true}
 use Rattle.std.proofs.lemmas.List.Elements.{All-cons, All-head, All-tail}
-use Rattle.group_quorum.specs.Voters.{insert_rising, rising}
+use Rattle.std.proofs.lemmas.List.Folds.{list_any-append}
+use Rattle.group_quorum.specs.Voters.{is_in, insert_rising, rising}
 
 -- the first place of an id above k
 abbrev pub above : List ℕ → ℕ → ℕ
@@ -40,3 +41,26 @@ insert_all P w [] h all = All-cons P w [] h all
 insert_all P w (x ∷ xs) h all = cond_both (ltb w x) (w ∷ x ∷ xs) (x ∷ insert_rising w xs) (All P)
     (λ e. All-cons P w (x ∷ xs) h all)
     (λ e. All-cons P x (insert_rising w xs) (All-head P x xs all) (insert_all P w xs h (All-tail P x xs all)))
+
+-- it is among them, and so is who was
+or_swap : (a b c : Bool) → (a || (b || c)) ≡ (b || (a || c))
+or_swap true true c = refl
+or_swap true false c = refl
+or_swap false b c = refl
+
+pub is_in-insert : (w : ℕ) (xs : List ℕ) (v : ℕ) → is_in (insert_rising w xs) v ≡ (eqb w v || is_in xs v)
+is_in-insert w [] v = refl
+is_in-insert w (x ∷ xs) v = cond_both (ltb w x) (w ∷ x ∷ xs) (x ∷ insert_rising w xs) (λ ys. is_in ys v ≡ (eqb w v || is_in (x ∷ xs) v))
+    (λ e. refl)
+    (λ e. ap (λ b. eqb x v || b) (is_in-insert w xs v) ∙ or_swap (eqb x v) (eqb w v) (is_in xs v))
+
+pub in_inserted : (w : ℕ) (xs : List ℕ) (v : ℕ) → is_in (insert_rising w xs) v ≡ true → (w ≡ v) ⊎ (is_in xs v ≡ true)
+in_inserted w xs v h = elim (or_cases (eqb w v) (is_in xs v) (sym (is_in-insert w xs v) ∙ h)) [ inl same ↦ inl (eqb-true w v same) | inr old ↦ inr old ]
+
+pub is_in-rising : (xs : List ℕ) (v : ℕ) → is_in (rising xs) v ≡ is_in xs v
+is_in-rising [] v = refl
+is_in-rising (x ∷ xs) v = is_in-insert x (rising xs) v ∙ ap (λ b. eqb x v || b) (is_in-rising xs v)
+
+-- an id behind others
+pub is_in-push : (xs : List ℕ) (w v : ℕ) → is_in (xs ++ w ∷ []) v ≡ (is_in xs v || (eqb w v || false))
+is_in-push xs w v = list_any-append (λ x. eqb x v) xs (w ∷ [])

@@ -8,21 +8,18 @@ use Rattle.std.proofs.lemmas.List.{take_at, drop_at, drop-replicate, length-repl
 use Rattle.group_quorum.specs.Stored.{IsStored}
 use Rattle.std.proofs.lemmas.Bool.{cond-true, cond-false, ltb-true, ltb-false, le-ltb, eqb-true, and_parts, and_from, lt-ltb, not_from_true, not_from_false}
 use Rattle.std.proofs.lemmas.List.Elements.{All-cons, All-nil, All-head, All-tail}
-use Rattle.std.proofs.lemmas.List.Folds.{list_any-append}
 use Rattle.group_quorum.specs.Conf.{Conf}
 use Rattle.group_quorum.specs.Voters.{is_id, is_in, first_bad, first_double, few_fault, double_fault, bad_fault, fault_of, rising, conf_of, conf_or, IsId, IsSound}
+use Rattle.group_quorum.specs.declared.ConfigFault.{ConfigFault}
 use Rattle.group_quorum.specs.declared.ConfigFault.TheVariants.{TooMany, TooFew}
 use Rattle.group_quorum.specs.declared.TheConstants.{MAX_VOTERS, MAX_ID}
 use Rattle.group_quorum.proofs.Counting.{bit}
-use Rattle.group_quorum.proofs.Rising.{climbs, copies, copies-cons, copies_same, Climbs, Rises, rises, climbs_rising, once, same_in_order, strictly, rising_copies, rising_climbs}
-use Rattle.group_quorum.proofs.Inserted.{rising_length, insert_all}
+use Rattle.group_quorum.proofs.Rising.{climbs, copies, copies-cons, copies_same, Climbs, rises, climbs_rising, once, same_in_order, strictly, rising_copies, rising_climbs}
+use Rattle.group_quorum.proofs.Inserted.{is_in-push, rising_length, insert_all}
 
 -- no id of the list stands twice, nor in what was seen
 abbrev pub Once : List ℕ → List ℕ → Type 0
 Once seen ids = (v : ℕ) → bit (is_in seen v) + copies v ids ≤ 1
-
-is_in-push : (seen : List ℕ) (w v : ℕ) → is_in (seen ++ w ∷ []) v ≡ (is_in seen v || (eqb w v || false))
-is_in-push seen w v = list_any-append (λ x. eqb x v) seen (w ∷ [])
 
 bit_le : (b : Bool) → bit b ≤ 1
 bit_le true = omega arith
@@ -73,11 +70,11 @@ ids_step : (w : ℕ) (ids : List ℕ) (b : Bool) → is_id w ≡ b → (first_ba
 ids_step w ids true good rest e = All-cons IsId w ids (id_true w good) (rest (sym (cond-false _ (Some w) _ (not_from_true _ good)) ∙ e))
 ids_step w ids false bad rest e = absurd (let s : first_bad (w ∷ ids) ≡ Some w = cond-true _ (Some w) _ (not_from_false _ bad) in cc)
 
-ids_from : (ids : List ℕ) → first_bad ids ≡ None → All IsId ids
+pub ids_from : (ids : List ℕ) → first_bad ids ≡ None → All IsId ids
 ids_from [] e = All-nil IsId
 ids_from (w ∷ ids) e = ids_step w ids (is_id w) refl (ids_from ids) e
 
-no_bad : (ids : List ℕ) → All IsId ids → first_bad ids ≡ None
+pub no_bad : (ids : List ℕ) → All IsId ids → first_bad ids ≡ None
 no_bad [] h = refl
 no_bad (w ∷ ids) h =
     cond-false _ (Some w) _ (not_from_true (is_id w) (id_from w (All-head IsId w ids h))) ∙ no_bad ids (All-tail IsId w ids h)
@@ -98,7 +95,7 @@ module _ (margin : ℕ) (ids : List ℕ) where
   double_step (Some v) e = absurd (cc)
   double_step None e = (refl, e)
 
-  bad_step : (bad : Option ℕ) → bad_fault bad margin ids ≡ None → (bad ≡ None) × (double_fault (first_double [] ids) margin ids ≡ None)
+  pub bad_step : (bad : Option ℕ) → bad_fault bad margin ids ≡ None → (bad ≡ None) × (double_fault (first_double [] ids) margin ids ≡ None)
   bad_step (Some v) e = absurd (cc)
   bad_step None e = (refl, e)
 
@@ -129,13 +126,22 @@ module _ (margin : ℕ) (ids : List ℕ) where
   pub in_rising_order : (sorted : List ℕ) → Climbs sorted → ((v : ℕ) → copies v sorted ≡ copies v ids) → rising ids ≡ sorted
   in_rising_order sorted up same = same_in_order (rising ids) sorted (rising_climbs ids) up (λ v. rising_copies v ids ∙ sym (same v))
 
--- a configuration is made of its own voters
+-- a sound configuration has no fault, and is made of its own voters
+pub sound_faultless : (c : Conf) → IsSound c → fault_of c.margin c.voters ≡ None
+sound_faultless c s =
+    no_fault c.margin c.voters (record { at_most = s.at_most; enough = s.enough; each_id = s.ids; once = once c.voters (rises c.voters s.in_order) })
+
 pub made : (c : Conf) → IsSound c → conf_of c.margin c.voters ≡ Ok c
 made c s =
-    let up : Rises c.voters = rises c.voters s.in_order in
-    let none : fault_of c.margin c.voters ≡ None = no_fault c.margin c.voters (record { at_most = s.at_most; enough = s.enough; each_id = s.ids; once = once c.voters up }) in
-    let order : rising c.voters ≡ c.voters = in_rising_order c.margin c.voters c.voters (climbs_rising c.voters up) (λ v. refl) in
-    ap (λ f. conf_or f c.margin c.voters) none ∙ ap (λ vs. Ok (record { margin = c.margin; voters = vs })) order
+    let order : rising c.voters ≡ c.voters = in_rising_order c.margin c.voters c.voters (climbs_rising c.voters (rises c.voters s.in_order)) (λ v. refl) in
+    ap (λ f. conf_or f c.margin c.voters) (sound_faultless c s) ∙ ap (λ vs. Ok (record { margin = c.margin; voters = vs })) order
+
+-- what is made of a list has its ids in rising order
+pub conf_or-made : (o : Option ConfigFault) (margin : ℕ) (ids : List ℕ) (c : Conf) → conf_or o margin ids ≡ Ok c → (o ≡ None) × (rising ids ≡ c.voters)
+conf_or-made (Some fault) margin ids c h = cc
+conf_or-made None margin ids c h =
+    let same : record { margin = margin; voters = rising ids } ≡ c = cc in
+    (refl, ap (λ (d : Conf). d.voters) same)
 
 -- what a sort of the ids leaves
 pub sorted_is : (ids sorted : List ℕ) → IsPermutation ids sorted → IsSorted nat_cmp sorted → sorted ≡ rising ids

@@ -1,15 +1,11 @@
 -- Who is among the voters that count.
-use Rattle.std.proofs.Common.{◌≡◌, ℕ, Bool, true, false, cond, ◌&&◌, ◌||◌, ◌==◌, nat_lt, List, [], ◌∷◌, refl, sym, ap, ◌∙◌}
+use Rattle.std.proofs.Common.{◌≡◌, ℕ, Bool, true, false, cond, ◌&&◌, ◌||◌, ◌==◌, List, [], ◌∷◌, refl, sym, ap, ◌∙◌}
 use Rattle.std.proofs.lemmas.Bool.{eqb-true}
 use Rattle.group_quorum.specs.Voters.{is_in, insert_rising}
+use Rattle.group_quorum.proofs.Inserted.{is_in-insert}
 use Rattle.replica_model.specs.Configs.{older_conf}
 use Rattle.replica_model.specs.Peers.{with_id, united, newest, is_pending}
 use Rattle.replica_model.specs.Laws.{VotersCounted}
-
-or_swap : (a b c : Bool) → (a || (b || c)) ≡ (b || (a || c))
-or_swap true true c = refl
-or_swap true false c = refl
-or_swap false b c = refl
 
 or_turn : (a b : Bool) → (a || b) ≡ (b || a)
 or_turn true true = refl
@@ -20,15 +16,6 @@ or_turn false false = refl
 or_join : (a b c : Bool) → (a || (b || c)) ≡ ((a || b) || c)
 or_join true b c = refl
 or_join false b c = refl
-
-in_inserted : (f : ℕ) (ids : List ℕ) (v : ℕ) → is_in (insert_rising f ids) v ≡ ((f == v) || is_in ids v)
-in_inserted f [] v = refl
-in_inserted f (w ∷ ids) v = by (nat_lt f w) (in_inserted f ids v)
-  where
-    by : (b : Bool) → is_in (insert_rising f ids) v ≡ ((f == v) || is_in ids v)
-        → is_in (cond b (f ∷ w ∷ ids) (w ∷ insert_rising f ids)) v ≡ ((f == v) || is_in (w ∷ ids) v)
-    by true later = refl
-    by false later = ap (λ b. (w == v) || b) later ∙ or_swap (w == v) (f == v) (is_in ids v)
 
 -- an id that stands in a list already adds none
 held : (f : ℕ) (ids : List ℕ) (v : ℕ) → is_in ids f ≡ true → is_in ids v ≡ ((f == v) || is_in ids v)
@@ -43,9 +30,9 @@ in_with_id f ids v = by (is_in ids f) refl
   where
     by : (b : Bool) → is_in ids f ≡ b → is_in (cond b ids (insert_rising f ids)) v ≡ ((f == v) || is_in ids v)
     by true e = held f ids v e
-    by false e = in_inserted f ids v
+    by false e = is_in-insert f ids v
 
-in_united : (more ids : List ℕ) (v : ℕ) → is_in (united more ids) v ≡ (is_in more v || is_in ids v)
+pub in_united : (more ids : List ℕ) (v : ℕ) → is_in (united more ids) v ≡ (is_in more v || is_in ids v)
 in_united [] ids v = refl
 in_united (w ∷ more) ids v =
     in_with_id w (united more ids) v ∙ ap (λ b. (w == v) || b) (in_united more ids v) ∙ or_join (w == v) (is_in more v) (is_in ids v)

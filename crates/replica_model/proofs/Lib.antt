@@ -5,7 +5,7 @@ pub mod United
 pub mod Greatest
 pub mod Bodies
 mod Worked
-mod Counted
+pub mod Counted
 pub mod Walk
 pub mod Raised
 pub mod Answered

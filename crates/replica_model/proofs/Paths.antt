@@ -1,5 +1,6 @@
 -- The chain and the configurations of a path and more entries, and the terms of its fronts.
-use Rattle.std.proofs.Common.{◌≡◌, ℕ, zero, suc, ◌+◌, ◌≤◌, false, [], ◌∷◌, ◌++◌, length, take, slice_get, option_map, unwrap_or, cond, refl, ap, ◌∙◌, arith}
+use Rattle.std.proofs.Common.{◌≡◌, ℕ, zero, suc, ◌+◌, ◌≤◌, false, inl, inr, [], ◌∷◌, ◌++◌, length, take, slice_get, option_map, unwrap_or, cond, refl, ap, ◌∙◌, arith}
+use Rattle.std.proofs.lemmas.Bool.{cases_Bool}
 use Rattle.std.proofs.lemmas.List.{length-take-le}
 use Rattle.values.specs.declared.entry.Body.{Body}
 use Rattle.values.specs.declared.entry.Body.TheVariants.{Noop, Ask, Members}
@@ -37,6 +38,14 @@ conf_index-append p q = conf_index_from-append 0 0 p q ∙ ap (λ n. conf_index_
 
 pub conf-push : ConfFollows
 conf-push first p e = record { conf = conf-append first p (e ∷ []); index = conf_index-append p (e ∷ []) }
+
+-- the index of a configuration is not above the last entry
+pub conf_index_from-bound : (i k : ℕ) (p : Path) → i ≤ k → conf_index_from i k p ≤ k + length p
+conf_index_from-bound i k [] le = omega arith
+conf_index_from-bound i k (e ∷ p) le = elim (cases_Bool (is_members e.body)) [
+  | inl m ↦ omega (arith, ap (λ b. conf_index_from (cond b (k + 1) i) (k + 1) p) m, conf_index_from-bound (k + 1) (k + 1) p (omega arith))
+  | inr m ↦ omega (arith, ap (λ b. conf_index_from (cond b (k + 1) i) (k + 1) p) m, conf_index_from-bound i (k + 1) p (omega arith))
+]
 
 -- the configuration stays under an entry that is no Members entry
 pub changed_plain : (c : Conf) (b : Body) → is_members b ≡ false → changed_by c b ≡ c

@@ -1,3 +1,4 @@
 mod Worked
 pub mod Fields
 pub mod Numbers
+pub mod Bytes
