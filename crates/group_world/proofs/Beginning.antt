@@ -26,7 +26,7 @@ use Rattle.group_world.specs.Plays.{Acts, ActsIn, Does, IsFailed}
 use Rattle.group_world.specs.Posted.{is_lost_in, waiting_in}
 use Rattle.group_world.specs.Standing.{AreKept, AreLetters, IsWorld, Runs, conf_in}
 use Rattle.group_world.specs.Starts.{Enlists, IsStarted, LinksAll, Starts, StartsAll, TakesUp}
-use Rattle.group_world.proofs.Enlisting.{is_in-insert}
+use Rattle.group_quorum.proofs.Inserted.{is_in-insert}
 use Rattle.group_world.proofs.Starting.{link_unanswered, none_left, runs_as, start_leaves}
 use Rattle.group_world.proofs.Understood.{one_start_fails, start_answers}
 

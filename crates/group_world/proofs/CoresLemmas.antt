@@ -17,6 +17,7 @@ use Rattle.values.specs.declared.want.Want.{Want}
 use Rattle.values.specs.declared.want.WantFault.{WantFault}
 use Rattle.schedule_model.specs.Client.{Core, heard, new_core, wanted}
 use Rattle.group_model.specs.Group.{core_of, is_client, put_core}
+use Rattle.group_model.proofs.Cores.{same_client}
 use Rattle.group_world.specs.Cores.{Cores, HearsAnswer, PutsCore, TakesWant}
 
 -- an entry of the map, as its client's core
@@ -27,12 +28,6 @@ abbrev pub seen_all : List (ClientId × (ClientId × Core)) → Cores
 seen_all es = map seen es
 
 -- ---- clients are told apart by their bytes
-
-same_client : (a b : ClientId) → is_client a b ≡ true → a ≡ b
-same_client a b e = ap (λ (bytes : List ℕ). record { 0 = bytes }) ((bytes_eq-Decides a.0 b.0).0 e)
-
-own_client : (a : ClientId) → is_client a a ≡ true
-own_client a = (bytes_eq-Decides a.0 a.0).1 refl
 
 bytes_turned : (xs ys : List ℕ) → bytes_eq xs ys ≡ bytes_eq ys xs
 bytes_turned xs ys = elim (cases_Bool (bytes_eq xs ys)) [

@@ -1,12 +1,11 @@
 -- Nothing is wrong with the contents by which replicas start.
-use Rattle.std.proofs.Common.{◌≡◌, ◌∙◌, sym, refl, ℕ, ◌+◌, ◌<◌, not, true, List, [], ◌∷◌, Option, Some, None, IsSome, arith}
+use Rattle.std.proofs.Common.{◌≡◌, ◌∙◌, sym, refl, ℕ, ◌<◌, List, [], ◌∷◌, Option, Some, None, IsSome, arith}
 use Rattle.std.specs.Prelude.{All}
 use Rattle.std.specs.Option.{SomeIff}
-use Rattle.std.proofs.lemmas.Bool.{cond-false, lt-ltb, not_from_true}
 use Rattle.std.proofs.lemmas.List.Elements.{All-cons, All-head, All-tail}
 use Rattle.values.specs.Rising.{Rising}
-use Rattle.group_quorum.specs.Voters.{IsId, first_bad, is_id}
-use Rattle.group_quorum.specs.declared.TheConstants.{MAX_ID}
+use Rattle.group_quorum.specs.Voters.{IsId}
+use Rattle.group_quorum.proofs.Made.{no_bad}
 use Rattle.fixed_fields.specs.Formats.{AreWords}
 use Rattle.host_inputs.specs.Checking.{IsSound}
 use Rattle.host_inputs.specs.Inputs.{Learn}
@@ -26,16 +25,5 @@ are_words (v ∷ ids) all =
     let low : v < 4294967296 = omega (arith, first.1) in
     (low, are_words ids (All-tail IsId v ids all))
 
-id_good : (v : ℕ) → IsId v → is_id v ≡ true
-id_good v (from, to) =
-    let up : v < MAX_ID + 1 = omega (arith, to) in
-    let low : 0 < v = omega (arith, from) in
-    rw (lt-ltb 0 v low, lt-ltb v (MAX_ID + 1) up) refl
-
-pub none_bad : (ids : List ℕ) → All IsId ids → first_bad ids ≡ None
-none_bad [] all = refl
-none_bad (v ∷ ids) all =
-    cond-false (not (is_id v)) (Some v) (first_bad ids) (not_from_true (is_id v) (id_good v (All-head IsId v ids all))) ∙ none_bad ids (All-tail IsId v ids all)
-
 pub learn_sound : (id : ℕ) (linked taken : List ℕ) → IsId id → All IsId linked → Rising linked → taken ≡ linked → IsSound (Learn id taken)
-learn_sound id linked taken own ids up is = rw is (record { ids = none_bad (id ∷ linked) (All-cons IsId id linked own ids); setup = refl; rising = up })
+learn_sound id linked taken own ids up is = rw is (record { ids = no_bad (id ∷ linked) (All-cons IsId id linked own ids); setup = refl; rising = up })

@@ -1,7 +1,7 @@
 -- Entries that are committed, at a replica and at the model's.
 use Rattle.std.proofs.Common.{◌≡◌, ℕ, ◌+◌, ◌-◌, ◌<◌, ◌≤◌, cond, not, ◌&&◌, nat_le, max, inl, inr, List, [], ◌∷◌, ◌++◌, length, take, drop, map, filter, filter_map, refl, sym, ap, subst, ◌∙◌, arith, append_assoc, take-append-drop, length-drop}
 use Rattle.std.proofs.lemmas.Bool.{cases_lt, lt-ltb}
-use Rattle.std.proofs.lemmas.List.{drop-take, drop-drop, take-take, length-take-le, length-take, nil_from_length}
+use Rattle.std.proofs.lemmas.List.{drop_all, drop-take, drop-drop, take-take, length-take-le, length-take}
 use Rattle.values.specs.declared.batch.Batch.{Batch}
 use Rattle.values.specs.declared.entry.LogEntry.{LogEntry}
 use Rattle.record_rules.specs.Table.{RecordTable}
@@ -23,9 +23,6 @@ use Rattle.replica_core.specs.Applying.{Applied, applied_all, kept_between, befo
 use Rattle.replica_core.specs.Calling.{Reaches}
 use Rattle.replica_core.proofs.Applied.{later, upto, none-due, Settled, settled}
 use Rattle.replica_core.proofs.Holding.{base-model, last-model}
-
-drop_past : {A : Type 0} (n : ℕ) (xs : List A) → length xs ≤ n → drop n xs ≡ []
-drop_past n xs le = nil_from_length (drop n xs) (let d = length-drop n xs in omega (arith, d, le))
 
 -- of tickets above the committed index those are due that are up to i
 due-upto : (s : model.Replica) (i c : ℕ) (ts : List model.Ticket) → s.committed ≤ c → AreTickets c (map kept_ticket ts)
@@ -145,8 +142,8 @@ module _ (logs : LogsAreTheModels) (h : Holder) (b : Batch) (c : Call) (i : ℕ)
   news-are = elim (cases_lt c.state.committed i) [
     | inl above ↦ ap (λ n. drop c.state.committed (take n c.state.path)) (let e : max c.state.committed i ≡ i = omega (arith, above) in e)
     | inr below ↦
-        drop_past c.state.committed (take (max c.state.committed i) c.state.path) (let t = length-take (max c.state.committed i) c.state.path in omega (arith, t, below))
-        ∙ sym (drop_past c.state.committed (take i c.state.path) (let t = length-take i c.state.path in omega (arith, t, below)))
+        drop_all c.state.committed (take (max c.state.committed i) c.state.path) (let t = length-take (max c.state.committed i) c.state.path in omega (arith, t, below))
+        ∙ sym (drop_all c.state.committed (take i c.state.path) (let t = length-take i c.state.path in omega (arith, t, below)))
   ]
 
   -- the entries up to i are committed

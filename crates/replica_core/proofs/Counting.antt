@@ -1,12 +1,13 @@
 -- Who is a peer of a leader.
-use Rattle.std.proofs.Common.{◌≡◌, ℕ, Bool, true, false, cond, not, ◌&&◌, ◌||◌, ◌==◌, nat_lt, inl, inr, List, [], ◌∷◌, refl, sym, ap, ◌∙◌}
-use Rattle.std.proofs.lemmas.Bool.{cases_Bool, cases_eq, cond_both, cond-true, cond-false, eqb-true, eq-eqb, ne_eqb}
+use Rattle.std.proofs.Common.{◌≡◌, ℕ, Bool, true, false, cond, not, ◌&&◌, ◌||◌, ◌==◌, List, refl, sym, ap, ◌∙◌}
+use Rattle.std.proofs.lemmas.Bool.{eqb-true}
 use Rattle.std.proofs.lemmas.Map.Views.{any-filter_same}
 use Rattle.group_quorum.specs.Conf.{Conf}
-use Rattle.group_quorum.specs.Voters.{is_in, insert_rising}
+use Rattle.group_quorum.specs.Voters.{is_in}
 use Rattle.replica_model.specs.Configs.{older_conf}
 use Rattle.replica_model.specs.Replica as model
-use Rattle.replica_model.specs.Peers.{with_id, united, others, newest, is_pending, voters_counted, is_peer}
+use Rattle.replica_model.specs.Peers.{united, others, newest, is_pending, voters_counted, is_peer}
+use Rattle.replica_model.proofs.Counted.{in_united}
 use Rattle.replica_log.specs.Window.{IsOrdered, last_index, conf_at, older_conf_at}
 use Rattle.replica_core.specs.Logs.{LogsAreTheModels}
 use Rattle.replica_core.specs.declared.role.Leading.{Leading}
@@ -15,44 +16,11 @@ use Rattle.replica_core.specs.Standing.{LeadsAs, HoldsFor}
 use Rattle.replica_core.specs.Keeping.{is_pending_at, is_peer_at}
 use Rattle.replica_core.proofs.Holding.{conf-whole, pending-whole, older-whole}
 
-or-assoc : (a b c : Bool) → ((a || b) || c) ≡ (a || (b || c))
-or-assoc true b c = refl
-or-assoc false b c = refl
-
 or-swap : (a b : Bool) → (a || b) ≡ (b || a)
 or-swap true true = refl
 or-swap true false = refl
 or-swap false true = refl
 or-swap false false = refl
-
-in-insert : (v : ℕ) (ids : List ℕ) (w : ℕ) → is_in (insert_rising v ids) w ≡ ((v == w) || is_in ids w)
-in-insert v [] w = refl
-in-insert v (x ∷ ids) w =
-    cond_both (nat_lt v x) (v ∷ x ∷ ids) (x ∷ insert_rising v ids) (λ xs. is_in xs w ≡ ((v == w) || ((x == w) || is_in ids w)))
-    (λ so. refl)
-    (λ not_so. ap (λ b. (x == w) || b) (in-insert v ids w) ∙ swapped (x == w) (v == w) (is_in ids w))
-  where
-    swapped : (a b c : Bool) → (a || (b || c)) ≡ (b || (a || c))
-    swapped true true c = refl
-    swapped true false c = refl
-    swapped false b c = refl
-
-in-with : (v : ℕ) (ids : List ℕ) (w : ℕ) → is_in (with_id v ids) w ≡ ((v == w) || is_in ids w)
-in-with v ids w = elim (cases_Bool (is_in ids v)) [
-  | inl stands ↦
-      ap (λ xs. is_in xs w) (cond-true (is_in ids v) ids (insert_rising v ids) stands)
-      ∙ (elim (cases_eq v w) [
-        | inl same ↦
-            ap (is_in ids) (sym same) ∙ (stands ∙ sym (ap (λ b. b || is_in ids w) (eq-eqb v w same)))
-        | inr other ↦ sym (ap (λ b. b || is_in ids w) (ne_eqb v w other))
-      ])
-  | inr absent ↦ ap (λ xs. is_in xs w) (cond-false (is_in ids v) ids (insert_rising v ids) absent) ∙ in-insert v ids w
-]
-
-in-united : (more ids : List ℕ) (w : ℕ) → is_in (united more ids) w ≡ (is_in more w || is_in ids w)
-in-united [] ids w = refl
-in-united (v ∷ more) ids w =
-    in-with v (united more ids) w ∙ (ap (λ b. (v == w) || b) (in-united more ids w) ∙ sym (or-assoc (v == w) (is_in more w) (is_in ids w)))
 
 in-others : (me : ℕ) (ids : List ℕ) (w : ℕ) → is_in (others me ids) w ≡ (not (w == me) && is_in ids w)
 in-others me ids w = any-filter_same (λ x. x == w) (λ v. not (v == me)) (not (w == me)) (λ k e. ap (λ x. not (x == me)) (eqb-true k w e)) ids
@@ -65,7 +33,7 @@ module _ (logs : LogsAreTheModels) (h : Holder) (s : model.Replica) (st : HoldsF
       by_pending : (b : Bool) → is_pending s ≡ b → is_in (cond b (united (older_conf s.first s.path).voters (newest s).voters) (newest s).voters) id
           ≡ (is_in (conf_at h.log (last_index h.log)).voters id || (is_pending_at h.log && is_in (older_conf_at h.log (last_index h.log)).voters id))
       by_pending true is =
-          in-united (older_conf s.first s.path).voters (newest s).voters id
+          in_united (older_conf s.first s.path).voters (newest s).voters id
           ∙ (or-swap (is_in (older_conf s.first s.path).voters id) (is_in (newest s).voters id)
           ∙ (ap (λ b. b || is_in (older_conf s.first s.path).voters id) (ap (λ (k : Conf). is_in k.voters id) (sym (conf-whole logs h.log s st.log)))
           ∙ (ap (λ b. is_in (conf_at h.log (last_index h.log)).voters id || b) (ap (λ (k : Conf). is_in k.voters id) (sym (older-whole logs h.log s st.log o is)))
@@ -86,4 +54,4 @@ module _ (logs : LogsAreTheModels) (h : Holder) (s : model.Replica) (st : HoldsF
       ap (λ v. not (id == v) && (is_in l.learners id || (is_in (conf_at h.log (last_index h.log)).voters id || (is_pending_at h.log && is_in (older_conf_at h.log (last_index h.log)).voters id)))) st.me
       ∙ (ap (λ vs. not (id == s.me) && (is_in vs id || (is_in (conf_at h.log (last_index h.log)).voters id || (is_pending_at h.log && is_in (older_conf_at h.log (last_index h.log)).voters id)))) like.learners
       ∙ (ap (λ b. not (id == s.me) && (is_in m.learners id || b)) (sym counted-in)
-      ∙ (ap (λ b. not (id == s.me) && b) (sym (in-united m.learners (voters_counted s) id)) ∙ sym (in-others s.me (united m.learners (voters_counted s)) id))))
+      ∙ (ap (λ b. not (id == s.me) && b) (sym (in_united m.learners (voters_counted s) id)) ∙ sym (in-others s.me (united m.learners (voters_counted s)) id))))

@@ -20,7 +20,6 @@ mod GivenUp
 mod Raised
 mod Due
 mod DueAs
-mod Confs
 mod Learns
 mod Transfers
 mod Changes

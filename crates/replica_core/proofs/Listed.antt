@@ -10,6 +10,7 @@ use Rattle.std.proofs.lemmas.Bool.{cases_Bool, cases_eq, cond_both, ltb-true, lt
 use Rattle.std.specs.Prelude.{MatchOption}
 use Rattle.std.specs.List.{position_or_len, insert}
 use Rattle.replica_model.specs.Keyed.{value_at, put, without}
+use Rattle.replica_model.proofs.RisingIds.{above_more}
 use Rattle.table_transfer.specs.declared.sending.Sent.{Sent}
 use Rattle.table_transfer.specs.declared.sending.Sent.TheVariants.{Next, Done, Ignored}
 use Rattle.table_transfer.specs.SentTable.{SentTable, heard, after_heard}
@@ -18,10 +19,6 @@ use Rattle.replica_core.specs.Heard.{sendings_after}
 
 one_more : (n : ℕ) → 1 + n ≡ suc n
 one_more n = omega arith
-
-above-more : (k w : ℕ) (vs : List ℕ) → k < w → AllByRecursion (λ v. w < v) vs → AllByRecursion (λ v. k < v) vs
-above-more k w [] le above = tt
-above-more k w (v ∷ vs) le (one, rest) = (omega (arith, le, one), above-more k w vs le rest)
 
 -- what stands at a place, whatever stands for nothing
 pub get_or-get_or : {X : Type 0} (xs : List X) (i : ℕ) (x d : X) → i < length xs → x ≡ get_or xs i x → get_or xs i d ≡ x
@@ -134,7 +131,7 @@ module _ {A : Type 0} where
     | inl here ↦
         let ne : y.0 ≡ k → ⊥ = other y (ap (slice_get (y ∷ ys)) (place-here y ys k here)) in
         let low : k ≤ y.0 = leb-true k y.0 here in
-        find-later y ys k ne ∙ none-above ys k (above-more k y.0 (map (λ x. x.0) ys) (omega (arith, ne)) above)
+        find-later y ys k ne ∙ none-above ys k (above_more k y.0 (map (λ x. x.0) ys) (omega (arith, ne)) above)
     | inr later ↦
         let below : y.0 < k = leb-false k y.0 later in
         find-later y ys k (λ e. absurd (omega (arith, e)))
@@ -184,7 +181,7 @@ module _ {A : Type 0} where
       cond_both (y.0 == k) ((k, a) ∷ ys) (cond (nat_lt k y.0) ((k, a) ∷ y ∷ ys) (y ∷ put ys k a)) (λ zs. Rising (map (λ x. x.0) zs))
       (λ t. (subst (λ v. AllByRecursion (λ w. v < w) (map (λ x. x.0) ys)) (eqb-true y.0 k t) above, rising))
       (λ f. cond_both (nat_lt k y.0) ((k, a) ∷ y ∷ ys) (y ∷ put ys k a) (λ zs. Rising (map (λ x. x.0) zs))
-      (λ t. let lt : k < y.0 = ltb-true k y.0 t in ((lt, above-more k y.0 (map (λ x. x.0) ys) lt above), (above, rising)))
+      (λ t. let lt : k < y.0 = ltb-true k y.0 t in ((lt, above_more k y.0 (map (λ x. x.0) ys) lt above), (above, rising)))
       (λ g. let le : y.0 ≤ k = ltb-false k y.0 g in
       (keys-put y.0 ys k a (let ne : y.0 ≡ k → ⊥ = eqb-false y.0 k f in omega (arith, ne)) above, rising-put ys k a rising)))
 

@@ -26,7 +26,7 @@ use Rattle.replica_core.specs.Keeping.{AreTickets, IsSound}
 use Rattle.replica_core.specs.Applying.{applied_from, holder_applied}
 use Rattle.replica_core.specs.Replacing.{kept_upto, members_above, tickets_left, given_up}
 use Rattle.replica_core.proofs.Bounds.{Reached, offer-reached}
-use Rattle.replica_core.proofs.Confs.{faultless}
+use Rattle.group_quorum.proofs.Made.{sound_faultless}
 use Rattle.replica_core.proofs.Offers.{left-rising, left-within}
 use Rattle.replica_core.proofs.Raises.{applied-sound}
 
@@ -34,7 +34,7 @@ use Rattle.replica_core.proofs.Raises.{applied-sound}
 fits_body : (b : Body) → IsBodyInRange b → FitsBody b
 fits_body Noop h = tt
 fits_body (Ask client number request) h = tt
-fits_body (Members margin voters) h = faultless (record { margin = margin; voters = voters }) h
+fits_body (Members margin voters) h = sound_faultless (record { margin = margin; voters = voters }) h
 
 pub all_fit : (es : Path) → All IsEntryInRange es → AllByRecursion Fits es
 all_fit [] h = tt

@@ -11,19 +11,11 @@ use Rattle.values.specs.declared.entry.Point.{Point}
 use Rattle.group_quorum.specs.Conf.{Conf}
 use Rattle.replica_model.specs.Path.{Path, Link, chain_from}
 use Rattle.replica_model.specs.Configs.{is_members, changed_by, conf, conf_index_from}
-use Rattle.replica_model.proofs.Paths.{changed_plain}
+use Rattle.replica_model.proofs.Paths.{changed_plain, conf_index_from-bound}
 use Rattle.replica_log.specs.declared.chained.Chained.{Chained}
 use Rattle.replica_log.specs.Window.{Window, Fits, summed, dropped_below, last_point, base_index, last_index, upto, term_from, entry_at, conf_at, conf_index_at}
 use Rattle.replica_log.specs.Chain.{conf_index_after, chained, chained_from, chained_at}
 use Rattle.replica_log.specs.Grafting.{point_at}
-
--- the index of a configuration is not above the last entry
-pub conf_index_from-bound : (j k : ℕ) (p : Path) → j ≤ k → conf_index_from j k p ≤ k + length p
-conf_index_from-bound j k [] le = omega arith
-conf_index_from-bound j k (e ∷ p) le = elim (cases_Bool (is_members e.body)) [
-  | inl m ↦ omega (arith, ap (λ b. conf_index_from (cond b (k + 1) j) (k + 1) p) m, conf_index_from-bound (k + 1) (k + 1) p (omega arith))
-  | inr m ↦ omega (arith, ap (λ b. conf_index_from (cond b (k + 1) j) (k + 1) p) m, conf_index_from-bound j (k + 1) p (omega arith))
-]
 
 module _ (link : Link) where
   pub entries-chained : (h : Hash) (k j : ℕ) (p : Path) → map (λ (c : Chained). c.entry) (chained_from link h k j p) ≡ p

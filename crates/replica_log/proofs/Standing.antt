@@ -11,7 +11,7 @@ use Rattle.replica_model.specs.Configs.{conf, conf_index, conf_index_from, older
 use Rattle.replica_model.specs.Replica.{Replica}
 use Rattle.replica_model.specs.Graft.{hash_at as model_hash_at}
 use Rattle.replica_model.proofs.Paths.{chain-append, conf-append, conf_index-append}
-use Rattle.replica_log.proofs.Chains.{conf_index_from-bound}
+use Rattle.replica_model.proofs.Paths.{conf_index_from-bound}
 use Rattle.replica_log.specs.Window.{Summary, summary_of, summed, summary_at, term_from, Window, IsOrdered, base_index, last_index, last_point, last_term_of, upto, kept_at, hash_at, term_at, entry_at, conf_at, conf_index_at, older_conf_at, configs_at, pushed, dropped_below}
 use Rattle.replica_log.specs.Models.{KeepsPath, StandsFor, SameIndices, kept_by, AreConfigs}
 

@@ -4,28 +4,20 @@ use Rattle.std.specs.Prelude.{IsTrue, if◌then◌else◌, is_ok, nat_le, nat_lt
 use Rattle.std.specs.Char.{is_ascii_uppercase}
 use Rattle.std.specs.List.{list_all}
 use Rattle.std.specs.Result.{result_ok, result_unwrap_or}
-use Rattle.std.proofs.lemmas.Bool.{cond-true, cond-false, and_from, and_parts, eqb-true, eq-eqb, le-leb, le-ltb, leb-true, lt-ltb, ltb-true}
+use Rattle.std.proofs.lemmas.Bool.{cond-true, cond-false, and_from, and_parts, eqb-true, eq-eqb, le-leb, le-ltb, leb-true, lt-ltb}
 use Rattle.std.proofs.lemmas.Option.{none-some, same_Some}
-use Rattle.hex.specs.Hex.{IsBytes, decode_of, decode_pairs, encode_with, hex_digit_value, lower_digits, pair_value, value_at, digit_or_error, ◌>>=◌}
+use Rattle.hex.specs.Hex.{decode_of, decode_pairs, encode_with, hex_digit_value, lower_digits, pair_value, value_at, digit_or_error, ◌>>=◌}
 use Rattle.hex.specs.declared.error.FromHexError.{FromHexError}
 use Rattle.hex.proofs.HexLemmas.{decode_of-encode_lower, decode_of-even, decode_of-ok}
 use Rattle.schedule_model.specs.Lines.{hex}
 use Rattle.schedule_model.specs.Reading.{bytes_or_fault}
 use Rattle.schedule_model.proofs.Reading.{bytes_or_fault-ok}
 use Rattle.trace_model.specs.TraceLines.{is_byte, is_bytes}
+use Rattle.trace_model.proofs.Bytes.{get_byte, all_bytes}
 use Rattle.trace_lines.specs.Fields.{is_lower, is_hex, is_sized, hex_in}
 use Rattle.trace_lines.proofs.Steps.{chosen, ok_of}
 
 -- ---- bytes
-get_byte : (xs : List ℕ) → IsTrue (list_all is_byte xs) → IsBytes xs
-get_byte [] h i = omega arith
-get_byte (x ∷ xs) h zero = ltb-true x 256 (and_parts (is_byte x) (list_all is_byte xs) h).0
-get_byte (x ∷ xs) h (suc i) = get_byte xs (and_parts (is_byte x) (list_all is_byte xs) h).1 i
-
-all_bytes : (xs : List ℕ) → IsBytes xs → IsTrue (list_all is_byte xs)
-all_bytes [] h = refl
-all_bytes (x ∷ xs) h = and_from (is_byte x) (list_all is_byte xs) (lt-ltb x 256 (h 0)) (all_bytes xs (λ i. h (suc i)))
-
 pub hex_again : (bytes : List ℕ) → IsTrue (list_all is_byte bytes) → decode_of (hex bytes) ≡ Ok bytes
 hex_again bytes h = decode_of-encode_lower bytes (get_byte bytes h)
 

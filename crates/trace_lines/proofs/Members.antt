@@ -10,7 +10,7 @@ use Rattle.group_quorum.specs.declared.ConfigFault.{ConfigFault}
 use Rattle.group_quorum.specs.declared.ConfigFault.TheVariants.{TooFew}
 use Rattle.values.specs.Rising.{Rising}
 use Rattle.group_quorum.specs.declared.TheConstants.{MAX_ID, MAX_MARGIN, MAX_VOTERS}
-use Rattle.group_quorum.proofs.Faults.{bad_fault-none}
+use Rattle.group_quorum.proofs.Made.{bad_step}
 use Rattle.schedule_model.specs.Lines.{Line}
 use Rattle.trace_model.specs.TraceLines.{is_members, is_rising}
 use Rattle.trace_lines.specs.Fields.{◌>>=◌, if_holds, number_in, replica_in}
@@ -70,7 +70,7 @@ conf_only margin voters h =
     let q = and_parts (nat_le 1 (length voters)) (is_rising voters && is_none (fault_of margin voters)) p.1 in
     let r = and_parts (is_rising voters) (is_none (fault_of margin voters)) q.1 in
     let none = none_is (fault_of margin voters) r.1 in
-    let good = bad_fault-none (first_bad voters) margin voters (past_many (nat_lt MAX_VOTERS (length voters)) (bad_fault (first_bad voters) margin voters) _ none) in
+    let good = (bad_step margin voters (first_bad voters) (past_many (nat_lt MAX_VOTERS (length voters)) (bad_fault (first_bad voters) margin voters) _ none)).0 in
     ap (λ o. o >>= λ m. ids_onto [] (map decimal voters) >>= λ ids. if_members m ids) (number_only margin 0 MAX_MARGIN (omega arith) (leb-true margin MAX_MARGIN p.0) (omega arith))
     ∙ ap (λ o. o >>= λ ids. if_members margin ids) (ids_only [] voters good)
     ∙ cond-true (is_members margin voters) (Some (margin, voters)) None h

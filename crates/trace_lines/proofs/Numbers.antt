@@ -1,11 +1,11 @@
 -- Numbers are read as they were printed, and were printed as they are read.
-use Rattle.std.proofs.Common.{◌≡◌, ℕ, ◌+◌, ◌-◌, ◌*◌, ◌^◌, ◌<◌, ◌≤◌, ◌==◌, ◌&&◌, zero, suc, not, Bool, true, false, cond, Some, Ok, List, [], ◌∷◌, length, get_or, refl, sym, ap, ◌∙◌, arith}
+use Rattle.std.proofs.Common.{◌≡◌, ℕ, ◌+◌, ◌-◌, ◌*◌, ◌^◌, ◌<◌, ◌≤◌, ◌==◌, ◌&&◌, not, Bool, true, false, cond, Some, Ok, List, [], ◌∷◌, length, get_or, refl, sym, ap, ◌∙◌, arith}
 use Rattle.std.specs.Prelude.{IsTrue, decimal, nat_le, fold}
 use Rattle.std.specs.Char.{is_ascii_digit, is_ascii_uppercase}
 use Rattle.std.specs.List.{list_all}
 use Rattle.std.specs.Result.{result_ok}
-use Rattle.std.proofs.lemmas.Bool.{and_from, and_parts, le-leb, leb-true, lt-leb, ne_eqb, not_from_false}
-use Rattle.std.proofs.lemmas.Fmt.{decimal-digits_value, decimal_digit, decimal_nonempty, digits_decimal, first_decimal}
+use Rattle.std.proofs.lemmas.Bool.{and_from, and_parts, le-leb, leb-true, lt-leb}
+use Rattle.std.proofs.lemmas.Fmt.{decimal-digits_value}
 use Rattle.std.proofs.lemmas.Str.Parse.{FoldsDigits, IsDigitsTest, IsNumeralModel, numerals_by_fold}
 use Rattle.values.specs.declared.event.Cause.TheVariants.{Number, Range}
 use Rattle.schedule_model.specs.Reading.{fault, is_number, value_of_digits, number_of, max_u64}
@@ -39,18 +39,6 @@ number_digits (d ∷ []) is = (and_from (is_ascii_digit d) true is refl, omega a
 number_digits (d ∷ e ∷ ds) is =
     let p = and_parts (not (d == 48)) (list_all is_ascii_digit (d ∷ e ∷ ds)) is in
     (p.1, omega arith, λ z. absurd (let x : not (d == 48) ≡ false = ap (λ n. not (n == 48)) z in let y : true ≡ false = sym p.0 ∙ x in cc))
-
-number_from : (text : List ℕ) → Digits text → 0 < length text → (get_or text 0 0 ≡ 48 → length text ≡ 1) → IsTrue (is_number text)
-number_from [] d some lead = absurd (omega arith)
-number_from (c ∷ []) d some lead = (and_parts (is_ascii_digit c) true d).0
-number_from (c ∷ e ∷ cs) d some lead = and_from (not (c == 48)) (list_all is_ascii_digit (c ∷ e ∷ cs)) (not_from_false (c == 48) (ne_eqb c 48 (λ is. absurd (omega (arith, lead is))))) d
-
-decimal_lead : (n : ℕ) → n < 2 ^ 64 → get_or (decimal n) 0 0 ≡ 48 → length (decimal n) ≡ 1
-decimal_lead zero h is = ap length (decimal_digit 0 (omega arith))
-decimal_lead (suc n) h is = absurd (omega (arith, first_decimal (suc n) (omega arith) h, is))
-
-decimal_number : (n : ℕ) → n < 2 ^ 64 → IsTrue (is_number (decimal n))
-decimal_number n h = number_from (decimal n) (digits_decimal own n h) (decimal_nonempty n h) (decimal_lead n h)
 
 -- ---- reading
 pub record IsNumber (text : List ℕ) (low high n : ℕ) : Type 0 where
