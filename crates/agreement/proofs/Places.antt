@@ -1,12 +1,12 @@
 -- The configuration of a path, and where its Members entries are.
 use Rattle.std.proofs.Common.{◌≡◌, ℕ, ◌≤◌, zero, suc, ◌+◌, Bool, true, false, ◌||◌, ◌⊎◌, inl, inr, [], ◌∷◌, ◌++◌, length, take, drop, refl, sym, ap, ◌∙◌, subst, cond, add-one, arith}
-use Rattle.std.proofs.lemmas.Bool.{or_parts, or_cases, or_right, cases_Bool}
+use Rattle.std.proofs.lemmas.Bool.{or_parts, or_cases, or_right}
 use Rattle.std.proofs.lemmas.List.{take_at, take-take, take-append-drop}
 use Rattle.values.specs.declared.entry.LogEntry.{LogEntry}
 use Rattle.group_quorum.specs.Conf.{Conf}
 use Rattle.replica_model.specs.Path.{Path}
 use Rattle.replica_model.specs.Configs.{is_members, conf, conf_index_from, conf_index}
-use Rattle.replica_model.proofs.Paths.{changed_plain}
+use Rattle.replica_model.proofs.Paths.{changed_plain, conf_index_from-bound}
 use Rattle.group_model.specs.Log.{IsFrontOf}
 
 abbrev pub has_members : Path → Bool
@@ -34,15 +34,8 @@ index_at i k (x ∷ u) e z m h = index_at (cond (is_members x.body) (k + 1) i) (
 pub last_at : (u : Path) (e : LogEntry) (z : Path) → is_members e.body ≡ true → has_members z ≡ false → conf_index (u ++ e ∷ z) ≡ length u + 1
 last_at u e z m h = index_at 0 0 u e z m h ∙ omega arith
 
-index_le : (i k : ℕ) (p : Path) → i ≤ k → conf_index_from i k p ≤ k + length p
-index_le i k [] le = omega arith
-index_le i k (e ∷ p) le = elim (cases_Bool (is_members e.body)) [
-  | inl m ↦ omega (arith, ap (λ b. conf_index_from (cond b (k + 1) i) (k + 1) p) m, index_le (k + 1) (k + 1) p (omega arith))
-  | inr m ↦ omega (arith, ap (λ b. conf_index_from (cond b (k + 1) i) (k + 1) p) m, index_le i (k + 1) p (omega arith))
-]
-
 pub conf_index_le : (p : Path) → conf_index p ≤ length p
-conf_index_le p = omega (arith, index_le 0 0 p (omega arith))
+conf_index_le p = omega (arith, conf_index_from-bound 0 0 p (omega arith))
 
 -- a path is cut at its first Members entry
 pub record FirstMembers (t : Path) : Type 0 where

@@ -6,6 +6,7 @@ use Rattle.std.proofs.lemmas.Bool.{or_cases, eqb-true, eq-eqb}
 use Rattle.std.proofs.lemmas.Option.{none-some}
 use Rattle.group_quorum.specs.Conf.{Conf}
 use Rattle.group_quorum.specs.Voters.{fault_of, conf_or, rising, is_in, insert_rising}
+use Rattle.group_quorum.proofs.Inserted.{in_inserted}
 use Rattle.values.specs.declared.event.Event.{Event}
 use Rattle.values.specs.declared.event.Event.TheVariants as event
 use Rattle.values.specs.declared.ids.ClientId.{ClientId}
@@ -33,7 +34,7 @@ use Rattle.trace_model.specs.TraceLines.{EventForm, RefusedForm, RefusedByGroup}
 use Rattle.audit_laws.proofs.Passing.{passes, passes_on, at, confs_after}
 use Rattle.audit_laws.proofs.Batches.{batch_forms, batch_passes}
 use Rattle.audit_laws.proofs.Stepping.{Agrees, Running, AllRun, BearSame, came_forms, start, Audited, Steps, moved_runs, now_runs, without_runs, bear_after, call_tells, call_reaches, seen_fits}
-use Rattle.range_laws.proofs.Confs.{inserted, or_left, or_right}
+use Rattle.range_laws.proofs.Confs.{or_left, or_right}
 
 -- an event's line leaves this opened
 abbrev Opens : Setup → List ℕ → Event → Type 0
@@ -194,7 +195,7 @@ module _ (link : Link) (s : Setup) (log : Path) (e : Event) (opens : Opens s [] 
       let f : Enclaves = start_enclave g.field (Learn x g.running) in
       let run : (v : ℕ) → is_in g.running v ≡ true → Running f v = λ v h. moved_runs g.field x (started (Learn x g.running)).replica None (newly (started (Learn x g.running))) v (runs v h) in
       connected_steps x g.running f (all_in (Running f) g.running run)
-      (λ v h. elim (inserted x g.running v h) [
+      (λ v h. elim (in_inserted x g.running v h) [
         | inl now ↦ subst (Running f) now (now_runs g.field x (started (Learn x g.running)).replica None (newly (started (Learn x g.running))))
         | inr old ↦ run v old
       ])

@@ -6,7 +6,8 @@ use Rattle.group_quorum.specs.Conf.{Conf}
 use Rattle.group_quorum.specs.Voters.{is_id, is_in, first_bad, bad_fault, fault_of, rising, conf_of}
 use Rattle.group_quorum.specs.declared.ConfigFault.TheVariants.{TooMany}
 use Rattle.group_quorum.specs.declared.TheConstants.{MAX_VOTERS, MAX_ID}
-use Rattle.group_quorum.proofs.Faults.{bad_fault-none, conf_or-made}
+use Rattle.group_quorum.proofs.Inserted.{is_in-rising}
+use Rattle.group_quorum.proofs.Made.{bad_step, conf_or-made}
 use Rattle.replica_model.specs.Path.{Link}
 use Rattle.replica_model.specs.Replica.{Replica, begin}
 use Rattle.replica_model.specs.Call.{still}
@@ -21,16 +22,7 @@ use Rattle.path_machine.proofs.Changes.{single_change_overlaps}
 use Rattle.path_laws.proofs.Goes.{start_reached}
 use Rattle.halt_laws.proofs.Alike.{Is}
 use Rattle.halt_laws.proofs.Onward.{still_went}
-use Rattle.halt_laws.proofs.Electing.{in_inserted}
 use Rattle.halt_laws.proofs.Moving.{Simulated, moves_simulated, moves_others}
-
--- voters that were made have ids
-in_rising : (ids : List ℕ) (v : ℕ) → is_in (rising ids) v ≡ true → is_in ids v ≡ true
-in_rising [] v h = h
-in_rising (x ∷ ids) v h = elim (in_inserted x (rising ids) v h) [
-  | inl same ↦ or_left (x == v) (is_in ids v) (eq-eqb x v same)
-  | inr rest ↦ or_right (x == v) (is_in ids v) (in_rising ids v rest)
-]
 
 all_ids : (ids : List ℕ) (v : ℕ) → first_bad ids ≡ None → is_in ids v ≡ true → is_id v ≡ true
 all_ids [] v none h = absurd (let apart : false ≡ true = h in cc)
@@ -47,13 +39,13 @@ all_ids (x ∷ ids) v none h = elim (cases_Bool (is_id x)) [
 faultless : (margin : ℕ) (ids : List ℕ) → fault_of margin ids ≡ None → first_bad ids ≡ None
 faultless margin ids = cond_both (nat_lt MAX_VOTERS (length ids)) (Some (TooMany _)) (bad_fault (first_bad ids) margin ids) (λ o. o ≡ None → first_bad ids ≡ None)
     (λ b h. cc)
-    (λ b h. bad_fault-none (first_bad ids) margin ids h)
+    (λ b h. (bad_step margin ids (first_bad ids) h).0)
 
 pub made_ids : (margin : ℕ) (ids : List ℕ) (c : Conf) → conf_of margin ids ≡ Ok c → (v : ℕ) → is_in c.voters v ≡ true → 0 < v
 made_ids margin ids c h v among =
     let made = conf_or-made (fault_of margin ids) margin ids c h in
     let known : is_in (rising ids) v ≡ true = subst (λ vs. is_in vs v ≡ true) (sym made.1) among in
-    ltb-true 0 v (and_parts (nat_lt 0 v) (nat_lt v (MAX_ID + 1)) (all_ids ids v (faultless margin ids made.0) (in_rising ids v known))).0
+    ltb-true 0 v (and_parts (nat_lt 0 v) (nat_lt v (MAX_ID + 1)) (all_ids ids v (faultless margin ids made.0) (sym (is_in-rising ids v) ∙ known))).0
 
 -- who comes later is higher
 above : (v : ℕ) (vs : List ℕ) (u : ℕ) → rises_from v vs ≡ true → is_in vs u ≡ true → v < u

@@ -15,7 +15,7 @@ use Rattle.values.specs.declared.peer.PeerMsg.TheVariants.{AskVote, Vote}
 use Rattle.client_msgs.specs.Canonical.{canonical_request}
 use Rattle.client_msgs.specs.Reading.{request_of}
 use Rattle.group_quorum.specs.Conf.{Conf}
-use Rattle.group_quorum.specs.Voters.{is_in, insert_rising}
+use Rattle.group_quorum.specs.Voters.{is_in}
 use Rattle.replica_model.specs.Path.{Path, Link, last_term}
 use Rattle.replica_model.specs.Enough.{met_by_both}
 use Rattle.replica_model.specs.Message.{Message, plain}
@@ -40,20 +40,6 @@ use Rattle.halt_laws.proofs.Leading.{anew_fits, pushed_fits}
 
 pub not_above : (n : ℕ) → nat_lt n n ≡ false
 not_above n = le-ltb n n (omega arith)
-
--- who stands among rising ids with one put in
-pub in_inserted : (v : ℕ) (ids : List ℕ) (u : ℕ) → is_in (insert_rising v ids) u ≡ true → (v ≡ u) ⊎ (is_in ids u ≡ true)
-in_inserted v [] u h = elim (or_cases (v == u) false h) [ inl is ↦ inl (eqb-true v u is) | inr never ↦ absurd (let apart : false ≡ true = never in cc) ]
-in_inserted v (x ∷ ids) u h = cond_both (nat_lt v x) (v ∷ x ∷ ids) (x ∷ insert_rising v ids) (λ ys. is_in ys u ≡ true → (v ≡ u) ⊎ (is_in (x ∷ ids) u ≡ true))
-    (λ b at. elim (or_cases (v == u) (is_in (x ∷ ids) u) at) [ inl is ↦ inl (eqb-true v u is) | inr rest ↦ inr rest ])
-    (λ b at. elim (or_cases (x == u) (is_in (insert_rising v ids) u) at) [
-      | inl is ↦ inr (subst (λ y. (y || is_in ids u) ≡ true) (sym is) refl)
-      | inr rest ↦ elim (in_inserted v ids u rest) [
-        | inl is ↦ inl is
-        | inr old ↦ inr (Rattle.std.proofs.lemmas.Bool.or_right (x == u) (is_in ids u) old)
-      ]
-    ])
-    h
 
 -- a vote after one more is that one or was there before
 in_votes : (s : Replica) (votes : List ℕ) (from u : ℕ) → is_in (with_vote s votes from) u ≡ true → (u ≡ from) ⊎ (is_in votes u ≡ true)

@@ -1,12 +1,13 @@
 -- Voters in rising order stay so where one is put in or taken out, and that is a single change; so is another margin.
-use Rattle.std.proofs.Common.{◌≡◌, ℕ, ◌<◌, ◌≤◌, ◌==◌, true, false, not, ◌&&◌, ◌||◌, nat_lt, bytes_eq, ◌⊎◌, inl, inr, Option, Some, None, Ok, List, [], ◌∷◌, ◌++◌, length, refl, sym, ap, ◌∙◌, subst, arith}
+use Rattle.std.proofs.Common.{◌≡◌, ℕ, ◌<◌, ◌≤◌, ◌==◌, true, false, not, ◌&&◌, ◌||◌, nat_lt, bytes_eq, inl, inr, Option, Some, None, Ok, List, [], ◌∷◌, ◌++◌, length, refl, sym, ap, ◌∙◌, subst, arith}
 use Rattle.std.proofs.lemmas.Bool.{and_parts, and_from, or_parts, or_cases, or_left, or_right, cond_both, cond-true, cond-false, ltb-true, ltb-false, lt-ltb, eqb-true, eqb-false, eq-eqb, ne_eqb, cases_Bool, cases_eq}
 use Rattle.std.proofs.lemmas.List.Folds.{list_any-append}
 use Rattle.group_quorum.specs.Conf.{Conf}
 use Rattle.group_quorum.specs.Voters.{is_in, first_bad, first_double, double_fault, bad_fault, fault_of, insert_rising, rising, conf_of}
 use Rattle.group_quorum.specs.declared.ConfigFault.TheVariants.{TooMany}
 use Rattle.group_quorum.specs.declared.TheConstants.{MAX_VOTERS}
-use Rattle.group_quorum.proofs.Faults.{conf_or-made}
+use Rattle.group_quorum.proofs.Inserted.{is_in-rising}
+use Rattle.group_quorum.proofs.Made.{conf_or-made}
 use Rattle.replica_model.specs.Peers.{others}
 use Rattle.replica_model.specs.Changes.{with_voter, without_voter}
 use Rattle.path_machine.specs.Changes.{rises_from, is_rising, is_one_more, is_single_change}
@@ -50,16 +51,6 @@ module _ (id : ℕ) where
       (λ b. or_right (w == id && is_one_more ws (w ∷ ws)) (bytes_eq (w ∷ ws) (w ∷ ws)) (bytes_refl (w ∷ ws)))
       (λ b. or_left (w == w && is_one_more ws (insert_rising id ws)) (bytes_eq (w ∷ ws) (insert_rising id ws))
       (and_from (w == w) (is_one_more ws (insert_rising id ws)) (eq-eqb w w refl) (insert_one ws)))
-
-  insert_in : (ws : List ℕ) (x : ℕ) → is_in (insert_rising id ws) x ≡ true → (id ≡ x) ⊎ (is_in ws x ≡ true)
-  insert_in [] x h = elim (or_cases (id == x) false h) [ inl same ↦ inl (eqb-true id x same) | inr never ↦ inr never ]
-  insert_in (w ∷ ws) x stands = cond_both (nat_lt id w) (id ∷ w ∷ ws) (w ∷ insert_rising id ws) (λ xs. is_in xs x ≡ true → (id ≡ x) ⊎ (is_in (w ∷ ws) x ≡ true))
-      (λ b h. elim (or_cases (id == x) (is_in (w ∷ ws) x) h) [ inl same ↦ inl (eqb-true id x same) | inr old ↦ inr old ])
-      (λ b h. elim (or_cases (w == x) (is_in (insert_rising id ws) x) h) [
-        | inl same ↦ inr (or_left (w == x) (is_in ws x) same)
-        | inr rest ↦ elim (insert_in ws x rest) [ inl same ↦ inl same | inr old ↦ inr (or_right (w == x) (is_in ws x) old) ]
-      ])
-      stands
 
   -- an id taken out
   head_out : (w : ℕ) (ws : List ℕ) → (w == id) ≡ true → others id (w ∷ ws) ≡ others id ws
@@ -153,13 +144,6 @@ seen_out seen (w ∷ ids) x double stands = cond_both (is_in seen w) (Some w) (f
     ap (λ y. y || is_in ids x) apart ∙ rest)
     double stands
 
-rising_in : (ids : List ℕ) (x : ℕ) → is_in (rising ids) x ≡ true → is_in ids x ≡ true
-rising_in [] x h = h
-rising_in (v ∷ ids) x h = elim (insert_in v (rising ids) x h) [
-  | inl same ↦ or_left (v == x) (is_in ids x) (eq-eqb v x same)
-  | inr rest ↦ or_right (v == x) (is_in ids x) (rising_in ids x rest)
-]
-
 rising_rises : (seen ids : List ℕ) → first_double seen ids ≡ None → is_rising (rising ids) ≡ true
 rising_rises seen [] none = refl
 rising_rises seen (v ∷ ids) double = cond_both (is_in seen v) (Some v) (first_double (seen ++ v ∷ []) ids) (λ o. o ≡ None → is_rising (rising (v ∷ ids)) ≡ true)
@@ -168,10 +152,7 @@ rising_rises seen (v ∷ ids) double = cond_both (is_in seen v) (Some v) (first_
     let here : is_in (seen ++ v ∷ []) v ≡ true =
     list_any-append (λ y. y == v) seen (v ∷ []) ∙ or_right (is_in seen v) (is_in (v ∷ []) v) (or_left (v == v) false (eq-eqb v v refl)) in
     let out : is_in ids v ≡ false = seen_out (seen ++ v ∷ []) ids v none here in
-    let out' : is_in (rising ids) v ≡ false = elim (cases_Bool (is_in (rising ids) v)) [
-      | inl stands ↦ absurd (let never : true ≡ false = sym (rising_in ids v stands) ∙ out in cc)
-      | inr none' ↦ none'
-    ] in
+    let out' : is_in (rising ids) v ≡ false = is_in-rising ids v ∙ out in
     insert_rises v (rising ids) (rising_rises (seen ++ v ∷ []) ids none) out')
     double
 

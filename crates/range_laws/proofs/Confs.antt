@@ -1,6 +1,6 @@
 -- Configurations that are begun and changed have no fault.
-use Rattle.std.proofs.Common.{◌≡◌, ℕ, ◌+◌, ◌-◌, ◌*◌, ◌<◌, ◌≤◌, Bool, true, false, cond, not, ◌&&◌, ◌||◌, ◌==◌, nat_lt, nat_le, Option, Some, None, List, [], ◌∷◌, ◌++◌, length, refl, sym, ap, ◌∙◌, arith, inl, inr}
-use Rattle.std.specs.Prelude.{◌⊎◌, is_none}
+use Rattle.std.proofs.Common.{◌≡◌, ℕ, ◌+◌, ◌-◌, ◌*◌, ◌≤◌, Bool, true, false, cond, not, ◌&&◌, ◌||◌, ◌==◌, nat_lt, nat_le, Option, Some, None, List, [], ◌∷◌, ◌++◌, length, refl, sym, ap, ◌∙◌, arith, inl, inr}
+use Rattle.std.specs.Prelude.{is_none}
 use Rattle.std.proofs.lemmas.Bool.{cond_both, cond-true, cond-false, cases_Bool, cases_lt, and_parts, and_from, leb-true, leb-false, le-leb, ltb-true, ltb-false, le-ltb, lt-ltb, eqb-true, eq-eqb, ne_eqb, or_cases, or_parts}
 use Rattle.std.proofs.lemmas.Option.{none-some}
 use Rattle.values.specs.Rising.{Rising}
@@ -9,11 +9,11 @@ use Rattle.group_quorum.specs.Voters.{is_in, first_bad, first_double, double_fau
 use Rattle.group_quorum.specs.declared.ConfigFault.{ConfigFault}
 use Rattle.group_quorum.specs.declared.ConfigFault.TheVariants.{TooFew}
 use Rattle.group_quorum.specs.declared.TheConstants.{MAX_VOTERS}
-use Rattle.group_quorum.proofs.Inserted.{insert_length, rising_length}
+use Rattle.group_quorum.proofs.Inserted.{insert_length, rising_length, is_in-rising}
 use Rattle.replica_model.specs.Peers.{others}
 use Rattle.replica_model.specs.Changes.{are_few, with_voter, without_voter}
 use Rattle.trace_model.specs.TraceLines.{is_rising}
-use Rattle.replica_model.proofs.RisingIds.{EachAbove, rising_filtered, no_bad, no_double, none_seen, one_less}
+use Rattle.replica_model.proofs.RisingIds.{above_more, rising_inserted, rising_filtered, no_bad, no_double, none_seen, one_less}
 use Rattle.replica_model.proofs.RisingIds as rising_ids
 use Rattle.range_laws.proofs.Raising.{all_filter, insert_in}
 use Rattle.range_laws.specs.Ranges.{IsId, AreIds, ConfIn}
@@ -26,21 +26,6 @@ or_left false b h = absurd (let e : false ≡ true = h in cc)
 pub or_right : (a b : Bool) → b ≡ true → (a || b) ≡ true
 or_right true b h = refl
 or_right false b h = h
-
-pub inserted : (x : ℕ) (ids : List ℕ) (v : ℕ) → is_in (insert_rising x ids) v ≡ true → (x ≡ v) ⊎ (is_in ids v ≡ true)
-inserted x [] v h = elim (or_cases (x == v) false h) [ inl e ↦ inl (eqb-true x v e) | inr never ↦ absurd (let e : false ≡ true = never in cc) ]
-inserted x (w ∷ ids) v h =
-    cond_both (nat_lt x w) (x ∷ w ∷ ids) (w ∷ insert_rising x ids) (λ ys. is_in ys v ≡ true → (x ≡ v) ⊎ (is_in (w ∷ ids) v ≡ true))
-    (λ b h. elim (or_cases (x == v) (is_in (w ∷ ids) v) h) [ inl e ↦ inl (eqb-true x v e) | inr r ↦ inr r ])
-    (λ b h. elim (or_cases (w == v) (is_in (insert_rising x ids) v) h) [
-      | inl e ↦ inr (or_left (w == v) (is_in ids v) e)
-      | inr r ↦ elim (inserted x ids v r) [ inl e ↦ inl e | inr more ↦ inr (or_right (w == v) (is_in ids v) more) ]
-    ])
-    h
-
-above_more : (v w : ℕ) (ids : List ℕ) → v < w → EachAbove w ids → EachAbove v ids
-above_more v w [] lt h = tt
-above_more v w (x ∷ ids) lt h = (omega (arith, lt, h.0), above_more v w ids lt h.1)
 
 rises : (ids : List ℕ) → is_rising ids ≡ true → Rising ids
 rises [] h = tt
@@ -115,31 +100,11 @@ parts_of c h =
     let f = fault_few c.margin c.voters (is_nothing (fault_of c.margin c.voters) d.1) in
     record { margin = leb-true c.margin 15 a.0; few = f.0; up = rises c.voters d.0; enough = f.2 }
 
-above_insert : (w v : ℕ) (ids : List ℕ) → w < v → EachAbove w ids → EachAbove w (insert_rising v ids)
-above_insert w v [] lt h = (lt, tt)
-above_insert w v (x ∷ ids) lt h = cond_both (nat_lt v x) (v ∷ x ∷ ids) (x ∷ insert_rising v ids) (EachAbove w) (λ b. (lt, h)) (λ b. (h.0, above_insert w v ids lt h.1))
-
-or_false : (a b : Bool) → (a || b) ≡ false → (a ≡ false) × (b ≡ false)
-or_false true b h = absurd (let e : true ≡ false = h in cc)
-or_false false b h = (refl, h)
-
-insert_rises : (v : ℕ) (ids : List ℕ) → Rising ids → is_in ids v ≡ false → Rising (insert_rising v ids)
-insert_rises v [] h new = (tt, tt)
-insert_rises v (w ∷ ids) h new =
-    let apart = or_false (w == v) (is_in ids v) new in
-    cond_both (nat_lt v w) (v ∷ w ∷ ids) (w ∷ insert_rising v ids) Rising
-    (λ b. let lt = ltb-true v w b in ((lt, above_more v w ids lt h.0), h))
-    (λ b.
-    let le = ltb-false v w b in
-    let ne = Rattle.std.proofs.lemmas.Bool.eqb-false w v apart.0 in
-    let lt : w < v = omega (arith, le, ne) in
-    (above_insert w v ids lt h.0, insert_rises v ids h.1 apart.1))
-
 pub admitted_conf : (c : Conf) (id : ℕ) → ConfIn c → IsId id → is_in c.voters id ≡ false → nat_le MAX_VOTERS (length c.voters) ≡ false → ConfIn (with_voter c id)
 admitted_conf c id h new fresh room =
     let p = parts_of c h in
     let long = insert_length id c.voters in
-    conf_from c.margin (insert_rising id c.voters) p.margin (omega (arith, long, leb-false MAX_VOTERS (length c.voters) room)) (insert_in id c.voters new h.ids) (insert_rises id c.voters p.up fresh) (omega (arith, long, p.enough))
+    conf_from c.margin (insert_rising id c.voters) p.margin (omega (arith, long, leb-false MAX_VOTERS (length c.voters) room)) (insert_in id c.voters new h.ids) (rising_inserted id c.voters p.up fresh) (omega (arith, long, p.enough))
 
 pub removed_conf : (c : Conf) (id : ℕ) → ConfIn c → not (is_in c.voters id) ≡ false → are_few (length c.voters - 1) c.margin ≡ false → ConfIn (without_voter c id)
 removed_conf c id h there enough =
@@ -192,19 +157,9 @@ apart_of : (seen ids : List ℕ) → first_double seen ids ≡ None → Apart id
 apart_of seen [] is = tt
 apart_of seen (v ∷ ids) is = let p = double_parts seen v ids is in (distinct (seen ++ v ∷ []) ids p.1 v (seen_last seen v), apart_of (seen ++ v ∷ []) ids p.1)
 
-not_inserted : (x : ℕ) (ids : List ℕ) (v : ℕ) → (x ≡ v → ⊥) → is_in ids v ≡ false → is_in (insert_rising x ids) v ≡ false
-not_inserted x ids v apart none = elim (cases_Bool (is_in (insert_rising x ids) v)) [
-  | inl there ↦ elim (inserted x ids v there) [ inl same ↦ absurd (apart same) | inr old ↦ absurd (let e : true ≡ false = sym old ∙ none in cc) ]
-  | inr fine ↦ fine
-]
-
-in_rising : (ids : List ℕ) (v : ℕ) → is_in ids v ≡ false → is_in (rising ids) v ≡ false
-in_rising [] v h = refl
-in_rising (x ∷ ids) v h = let p = or_false (x == v) (is_in ids v) h in not_inserted x (rising ids) v (Rattle.std.proofs.lemmas.Bool.eqb-false x v p.0) (in_rising ids v p.1)
-
 rising_rises : (ids : List ℕ) → Apart ids → Rising (rising ids)
 rising_rises [] h = tt
-rising_rises (v ∷ ids) h = insert_rises v (rising ids) (rising_rises ids h.1) (in_rising ids v h.0)
+rising_rises (v ∷ ids) h = rising_inserted v (rising ids) (rising_rises ids h.1) (is_in-rising ids v ∙ h.0)
 
 rising_in : (ids : List ℕ) → AreIds ids → AreIds (rising ids)
 rising_in [] h = tt
