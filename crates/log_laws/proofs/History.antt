@@ -13,6 +13,7 @@ use Rattle.group_model.specs.Run.{Recorded}
 use Rattle.agreement.specs.Promised.{IsComparable}
 use Rattle.log_laws.proofs.Chain.{NoCollisionIn}
 use Rattle.log_laws.proofs.Good.{front_refl}
+pub use Rattle.agreement.proofs.Fronts.{both_fronts}
 use Rattle.agreement.proofs.Fronts.{begins}
 use Rattle.log_laws.proofs.Leading.{front}
 

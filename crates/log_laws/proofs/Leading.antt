@@ -17,6 +17,7 @@ use Rattle.group_model.specs.Log.{IsFrontOf}
 use Rattle.agreement.specs.Promised.{EachPlacePromised}
 use Rattle.agreement.proofs.Promised.{each_shorter}
 use Rattle.agreement.proofs.Places.{has_members, last_at, take_upto, take_front, take_of_front_of, members_more, members_push, snoc}
+pub use Rattle.agreement.proofs.Fronts.{begins}
 use Rattle.log_laws.proofs.Lookups.{put_cases, without_stood, map_stands}
 use Rattle.log_laws.proofs.Good.{GoodPath, GoodProgress, GoodSending, GoodLeading}
 

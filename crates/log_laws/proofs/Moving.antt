@@ -24,10 +24,10 @@ use Rattle.agreement.specs.Promised.{EachPlacePromised}
 use Rattle.agreement.proofs.Promised.{each_more, each_nil}
 use Rattle.log_laws.proofs.Chain.{NoCollisionIn}
 use Rattle.log_laws.proofs.Good.{GoodPath, GoodReplica, GoodMessage, GoodSent, msg_more, front_refl}
-use Rattle.agreement.proofs.Fronts.{begins, both_fronts}
+use Rattle.log_laws.proofs.Leading.{begins}
 use Rattle.log_laws.proofs.Lookups.{put_cases, without_stood}
 use Rattle.log_laws.proofs.Ending.{all-append}
-use Rattle.log_laws.proofs.History.{with_call, EverIn, HeldIn, ever_shorter, held_shorter, all_more}
+use Rattle.log_laws.proofs.History.{with_call, EverIn, HeldIn, ever_shorter, held_shorter, all_more, both_fronts}
 use Rattle.log_laws.proofs.Enclosed.{GoodEnclave, enclave_more, GoodHostInput, input_more, GoodCalled, called_good}
 
 abbrev pub GoodMail : Link → Conf → List Recorded → Sent Message → Type 0
