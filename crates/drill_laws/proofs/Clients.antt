@@ -18,6 +18,7 @@ use Rattle.record_rules.specs.Clients.{client_eq}
 use Rattle.schedule_model.specs.Client.{first_request, numbers_needed}
 use Rattle.schedule_model.specs.Drill.{client, secret, pin, no_pin, tries, wish}
 use Rattle.group_model.specs.Group.{is_client}
+pub use Rattle.group_model.proofs.Cores.{core_of-put_same as core_put, core_of-put_other as core_stays}
 use Rattle.record_rules.proofs.Clients.{client_eq-true}
 
 -- ---- clients are told apart

@@ -26,17 +26,15 @@ use Rattle.schedule_model.specs.Client.{Core, first_request}
 use Rattle.schedule_model.specs.Drill.{client, secret, pin, tries, wish, word, stores, exchange, all_store, all_wish, drill_events}
 use Rattle.group_model.specs.Group.{Answered, bears, is_client, core_of, put_core}
 use Rattle.group_model.specs.Run.{Enclaves, World, empty_world}
-use Rattle.group_model.proofs.Cores.{core_of-put_same, core_of-put_other}
 use Rattle.trace_model.specs.Summary.{halts}
 use Rattle.trace_model.specs.Trace.{Playing, playing}
 use Rattle.drill_laws.specs.Laws.{DrillIsPlayed, DrillComesTo, HearsNameTheNewest, AllHoldLogs, NobodyLearns, rounds}
 use Rattle.drill_laws.proofs.Leads.{IsPlain}
 use Rattle.drill_laws.proofs.Plays.{Plays, none_stops, ends_so, each_newest}
 use Rattle.drill_laws.proofs.Exchanges.{Calm}
-use Rattle.record_rules.proofs.Rows.{row_of-put_other}
-use Rattle.record_rules.proofs.Sound.{length_put}
+use Rattle.drill_laws.proofs.Tables.{row_stays, rows_more}
 use Rattle.drill_laws.proofs.Starting.{noop, noop_plain, begin_plays, tick_plays}
-use Rattle.drill_laws.proofs.Clients.{clients_differ, clients_apart, backup, expose, backup_reads, expose_reads, backup_sized, is_wish}
+use Rattle.drill_laws.proofs.Clients.{clients_differ, clients_apart, core_put, core_stays, backup, expose, backup_reads, expose_reads, backup_sized, is_wish}
 use Rattle.drill_laws.proofs.Storing.{ready, store_plays, plain_stored, long_stored, fold_stored, few_cores_stored, answers_stored, count_stored, core3, hearing, wish_plays, plain_wished, long_wished, few_cores_wished, answers_wished, count_wished}
 
 -- where nobody was rolled back, each configuration bears it
@@ -140,15 +138,15 @@ module _ (link : Link) where
 
     others : (j : ℕ) → j ≤ 2001 → (i ≡ j → ⊥) → core_of cores' (client j) ≡ core_of cores (client j)
     others j low apart =
-        core_of-put_other cores2 (client i) (client j) ready differ
-        ∙ core_of-put_other cores1 (client i) (client j) (core 2 true) differ
-        ∙ core_of-put_other cores (client i) (client j) (core 1 false) differ
+        core_stays cores2 (client i) (client j) ready differ
+        ∙ core_stays cores1 (client i) (client j) (core 2 true) differ
+        ∙ core_stays cores (client i) (client j) (core 1 false) differ
       where
         differ : is_client (client i) (client j) ≡ false
         differ = clients_differ i j (omega (arith, within)) low apart
 
     other_rows : (j : ℕ) → j ≤ 2001 → (i ≡ j → ⊥) → row_of tb'.rows (client j) ≡ row_of tb.rows (client j)
-    other_rows j low apart = row_of-put_other rows1 (row 2 true) (client j) differ ∙ row_of-put_other tb.rows (row 1 false) (client j) differ
+    other_rows j low apart = row_stays rows1 (row 2 true) (client j) differ ∙ row_stays tb.rows (row 1 false) (client j) differ
       where
         differ : client_eq (client i) (client j) ≡ false
         differ = clients_apart i j (omega (arith, within)) low apart
@@ -158,11 +156,11 @@ module _ (link : Link) where
         record {
           fold_is = fold_stored link p plain events messages answers cores few1 few2 few3 few4 few5 pl rest Q at (client i) tb s.fold_is s.limit_is few6 fresh (secret i) (pin i) (tries i) (backup_reads i) (expose_reads i) (backup_sized i) none a newest;
           limit_is = s.limit_is;
-          few_rows = omega (arith, s.few_rows, length_put tb.rows (row 1 false), length_put rows1 (row 2 true));
+          few_rows = omega (arith, s.few_rows, rows_more tb.rows (row 1 false), rows_more rows1 (row 2 true));
           fresh = λ j above low. other_rows j (omega (arith, low)) (λ e. omega (arith, e, above)) ∙ s.fresh j (omega (arith, above)) low;
           unknown = λ j above low. others j (omega (arith, low)) (λ e. omega (arith, e, above)) ∙ s.unknown j (omega (arith, above)) low;
           stored = λ j from below. elim (cases_eq i j) [
-            | inl same ↦ subst (λ k. core_of cores' (client k) ≡ Some ready) same (core_of-put_same cores2 (client i) ready)
+            | inl same ↦ subst (λ k. core_of cores' (client k) ≡ Some ready) same (core_put cores2 (client i) ready)
             | inr apart ↦ others j (omega (arith, below, within)) apart ∙ s.stored j from (omega (arith, below, apart))
           ];
           few_cores = omega (arith, s.few_cores, few_cores_stored link p plain events messages answers cores few1 few2 few3 few4 few5 pl rest Q at (client i) tb s.fold_is s.limit_is few6 fresh (secret i) (pin i) (tries i) (backup_reads i) (expose_reads i) (backup_sized i) none a newest);
@@ -263,8 +261,8 @@ module _ (link : Link) where
         record {
           waits = λ j above low.
               let differ : is_client (client i) (client j) ≡ false = clients_differ i j (omega (arith, below, within)) (omega (arith, low, within)) (λ e. omega (arith, e, above)) in
-              core_of-put_other (put_core cores (client i) first_core) (client i) (client j) last_core differ
-              ∙ core_of-put_other cores (client i) (client j) first_core differ
+              core_stays (put_core cores (client i) first_core) (client i) (client j) last_core differ
+              ∙ core_stays cores (client i) (client j) first_core differ
               ∙ s.waits j (omega (arith, above)) low;
           few_cores = omega (arith, s.few_cores, few_cores_wished link p plain ev ms answers cores few1' few2' few3' few4' few5' pl rest Q at (client i) (wish i w) (is_wish i w) waits_here a newest);
           short = omega (arith, s.short, long_wished link p plain ev ms answers cores few1' few2' few3' few4' few5' pl rest Q at (client i) (wish i w) (is_wish i w) waits_here a newest);

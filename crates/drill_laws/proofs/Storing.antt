@@ -27,7 +27,6 @@ use Rattle.client_msgs.specs.Sizes.{size_fault}
 use Rattle.record_rules.specs.declared.status.TheConstants.{OK, ERROR}
 use Rattle.record_rules.specs.Rules.{apply, apply_by, after_acting}
 use Rattle.record_rules.specs.Table.{RecordTable, row_of, put_row}
-use Rattle.record_rules.proofs.Rows.{row_of-put_same}
 use Rattle.replica_model.specs.Path.{Path, Link}
 use Rattle.replica_model.specs.Folds.{fold_of, reply_of}
 use Rattle.replica_model.specs.Message.{Message}
@@ -35,7 +34,6 @@ use Rattle.schedule_model.specs.Client.{Core, new_core, first_request, wanted, w
 use Rattle.schedule_model.specs.Reading.{max_u64}
 use Rattle.group_model.specs.Group.{Answered, core_of, put_core}
 use Rattle.group_model.specs.Run.{Enclaves}
-use Rattle.group_model.proofs.Cores.{core_of-put_same}
 use Rattle.trace_model.specs.Trace.{Playing}
 use Rattle.drill_laws.proofs.Numbers.{same_bytes}
 use Rattle.drill_laws.proofs.Leads.{IsPlain}
@@ -44,8 +42,8 @@ use Rattle.drill_laws.proofs.Events.{want_goes}
 use Rattle.drill_laws.proofs.Simulated.{restated}
 use Rattle.drill_laws.proofs.Plays.{Plays}
 use Rattle.drill_laws.proofs.Exchanges.{put_length, agreed, Calm, outcome, exchange_plays}
-use Rattle.drill_laws.proofs.Tables.{table_after, reply_after}
-use Rattle.drill_laws.proofs.Clients.{IsWish}
+use Rattle.drill_laws.proofs.Tables.{table_after, reply_after, row_put}
+use Rattle.drill_laws.proofs.Clients.{core_put, IsWish}
 
 -- a client that has stored, and has nothing in flight
 abbrev pub ready : Core
@@ -131,7 +129,7 @@ module _ (link : Link) (p : Path) (no_members : IsPlain p) (events messages : �
     apply2 : apply (fold_of MOST_ROWS p1) c 2 x ≡ (table_stored, Applied (Exposed OK))
     apply2 =
         (λ i. apply (fold1 i) c 2 x)
-        ∙ (λ i. apply_by (row_of-put_same tb.rows (row 1 false) i) tb1 c 2 x)
+        ∙ (λ i. apply_by (row_put tb.rows (row 1 false) i) tb1 c 2 x)
         ∙ (λ i. after_acting tb1 c 2 (cond (same_bytes sec i) (Some (kept true), Exposed OK) (Some (kept false), Exposed ERROR)))
 
     pub fold_stored : fold_of MOST_ROWS path_stored ≡ table_stored
@@ -162,13 +160,13 @@ module _ (link : Link) (p : Path) (no_members : IsPlain p) (events messages : �
       exposes : (t : Playing Message Enclaves) → Calm t.group p1 (events + 1 + 26) (messages + 24) answers1 cores2 → Plays link t (event.Say c 1 ∷ event.Settle 24 ∷ event.Hear c (a + 1) ∷ rest) Q
       exposes t at =
           exchange_plays link p1 plain1 (events + 1 + 26) (messages + 24) answers1 cores2 (omega (arith, few_events)) (omega (arith, few_messages)) (omega (arith, few_answers, count1)) (omega (arith, few_cores, put_length cores c core1, put_length cores1 c core2))
-          t rest Q at c core2 ready 2 x (Applied (Exposed OK)) (Some report.Stored) (a + 1) (core_of-put_same cores1 c core2) refl reads_on (omega (arith, low, long1)) reply2 refl (omega (arith, newest, count1))
+          t rest Q at c core2 ready 2 x (Applied (Exposed OK)) (Some report.Stored) (a + 1) (core_put cores1 c core2) refl reads_on (omega (arith, low, long1)) reply2 refl (omega (arith, newest, count1))
           (λ u at'. next u (restated u.group [] [] (agreed path_stored) (events + 1 + 26 + 26) (events + 53) (messages + 24 + 24) (messages + 48) answers_stored answers_stored cores_stored refl (omega arith) (omega arith) refl at'))
 
       backs_up : (t : Playing Message Enclaves) → Calm t.group p (events + 1) messages answers cores1 → Plays link t (event.Say c 1 ∷ event.Settle 24 ∷ event.Hear c a ∷ event.Say c 1 ∷ event.Settle 24 ∷ event.Hear c (a + 1) ∷ rest) Q
       backs_up t at =
           exchange_plays link p no_members (events + 1) messages answers cores1 (omega (arith, few_events)) (omega (arith, few_messages)) (omega (arith, few_answers)) (omega (arith, few_cores, put_length cores c core1))
-          t (event.Say c 1 ∷ event.Settle 24 ∷ event.Hear c (a + 1) ∷ rest) Q at c core1 core2 1 b (Applied (BackedUp OK)) None a (core_of-put_same cores c core1) refl reads (omega (arith, low)) reply1 refl newest exposes
+          t (event.Say c 1 ∷ event.Settle 24 ∷ event.Hear c (a + 1) ∷ rest) Q at c core1 core2 1 b (Applied (BackedUp OK)) None a (core_put cores c core1) refl reads (omega (arith, low)) reply1 refl newest exposes
 
       pub store_plays : Plays link pl (event.Want c w ∷ event.Say c 1 ∷ event.Settle 24 ∷ event.Hear c a ∷ event.Say c 1 ∷ event.Settle 24 ∷ event.Hear c (a + 1) ∷ rest) Q
       store_plays = (
@@ -226,6 +224,6 @@ module _ (link : Link) (p : Path) (no_members : IsPlain p) (events messages : �
             [] calm_at c w core3 wish_is (omega (arith, few_messages), omega (arith, few_answers), omega (arith, few_cores, put_length cores c core3))
             (λ t at.
             exchange_plays link p no_members (events + 1) messages answers cores3 (omega (arith, few_events)) (omega (arith, few_messages)) (omega (arith, few_answers)) (omega (arith, few_cores, put_length cores c core3))
-            t rest Q at c core3 hearing.0 3 (first_request w) reply hearing.1 a (core_of-put_same cores c core3) refl wish.reads (omega (arith, low)) (reply_after MOST_ROWS p 1 c 3 (first_request w) wish.reads) refl newest
+            t rest Q at c core3 hearing.0 3 (first_request w) reply hearing.1 a (core_put cores c core3) refl wish.reads (omega (arith, low)) (reply_after MOST_ROWS p 1 c 3 (first_request w) wish.reads) refl newest
             (λ u at'. next u (restated u.group [] [] (agreed path_wished) (events + 1 + 26) (events + 27) (messages + 24) (messages + 24) answers_wished answers_wished cores_wished refl (omega arith) refl refl at'))),
       )

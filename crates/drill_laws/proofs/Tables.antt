@@ -11,6 +11,8 @@ use Rattle.client_msgs.specs.Reading.{request_of}
 use Rattle.record_rules.specs.Places.{ClientAsk, Places, apply_place, fold_places, reply_at}
 use Rattle.record_rules.specs.Rules.{apply}
 use Rattle.record_rules.specs.Table.{RecordTable}
+pub use Rattle.record_rules.proofs.Rows.{row_of-put_same as row_put, row_of-put_other as row_stays}
+pub use Rattle.record_rules.proofs.Sound.{length_put as rows_more}
 use Rattle.replica_model.specs.Path.{Path}
 use Rattle.replica_model.specs.Folds.{ask_of, place_of, places_of, fold_of, reply_of}
 use Rattle.drill_laws.proofs.Queue.{at_first}

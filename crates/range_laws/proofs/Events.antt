@@ -41,7 +41,7 @@ use Rattle.range_laws.proofs.Bounds.{still_in}
 use Rattle.range_laws.proofs.Raising.{all_filter, insert_in}
 use Rattle.range_laws.proofs.Confs.{begun_conf}
 use Rattle.range_laws.proofs.Rules.{u64_of, id_low}
-use Rattle.trace_model.proofs.Numbers.{one_number}
+use Rattle.range_laws.proofs.Hearing.{one_number}
 use Rattle.range_laws.proofs.Worlds.{FlightIn, CoreIn, ReportIn, EnclaveIn, MailIn, GivenIn, ClientIn, FieldIn, WorldIn, CameIn, Stays, handed_in, flight_in, wanted_in, want_fault_in, heard_in, world_later, HostIn, CalledIn, called_in, moved_in, IsShort, IsShortWant}
 use Rattle.range_laws.specs.Ranges.{IsId, AreIds, ConfIn, EntryIn, StateIn, SentIn, AnsweredIn, BatchIn, EventIn, WantIn}
 

@@ -44,7 +44,7 @@ use Rattle.replica_model.specs.Ticks.{sent_again, all_again, parts_again, leader
 use Rattle.replica_model.specs.Changes.{first_refusal, log_full, change_pending, voter_count, votes, learner_mark, are_few, join_refusal, admit_refusal, remove_refusal, margin_refusal, unless, joined, join, push_members, with_voter, without_voter, admit, remove, set_margin}
 use Rattle.trace_model.specs.TraceLines.{is_u64, is_client_id, refusal_numbers}
 use Rattle.trace_model.specs.Hashing.{GivesHashes}
-use Rattle.trace_model.proofs.Numbers.{one_number}
+pub use Rattle.trace_model.proofs.Numbers.{one_number}
 use Rattle.schedule_model.specs.Reading.{max_u32}
 use Rattle.log_laws.proofs.Ending.{all-append}
 use Rattle.log_laws.proofs.Lookups.{put_cases, without_stood}

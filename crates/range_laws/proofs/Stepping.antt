@@ -19,11 +19,10 @@ use Rattle.replica_model.specs.Term.{followed}
 use Rattle.replica_model.specs.Step.{step}
 use Rattle.trace_model.specs.TraceLines.{is_client_id, is_u64}
 use Rattle.trace_model.specs.Hashing.{GivesHashes}
-use Rattle.trace_model.proofs.Numbers.{one_number}
 use Rattle.range_laws.proofs.Bounds.{first_any, with_term}
 use Rattle.range_laws.proofs.Raising.{ended_in}
 use Rattle.range_laws.proofs.Rules.{still_so, saying, refusing, u64_of, vote_asked_in, vote_heard_in, stand_in, append_heard_in}
-use Rattle.range_laws.proofs.Hearing.{RequestIn, on_request_in, part_heard_in, take_part_in, accepted_in, rejected_in, taken_heard_in, leader_tick_in, join_in, admit_in, remove_in, margin_in}
+use Rattle.range_laws.proofs.Hearing.{RequestIn, one_number, on_request_in, part_heard_in, take_part_in, accepted_in, rejected_in, taken_heard_in, leader_tick_in, join_in, admit_in, remove_in, margin_in}
 
 module _ (m : ℕ) (small : m ≤ MAX_EVENTS) (link : Link) (hashes : GivesHashes link) where
   conf_of_holder : (role : Role) (first : Conf) → IsHolder role → FirstIn role first → ConfIn first

@@ -52,14 +52,13 @@ use Rattle.group_model.specs.Happens.{Came, Refused, Replied, Reported, Passed, 
 use Rattle.group_model.specs.Run.{Enclaves, World, moves, enclaves}
 use Rattle.trace_model.specs.TraceLines.{is_byte, is_hash, is_response, is_u32, is_u64, is_client_id, refusal_numbers, group_refusal_numbers}
 use Rattle.trace_model.specs.Hashing.{GivesHashes}
-use Rattle.trace_model.proofs.Numbers.{one_number}
 use Rattle.log_laws.proofs.Ending.{all-append}
 use Rattle.log_laws.proofs.History.{all_more}
 use Rattle.log_laws.proofs.Lookups.{put_cases}
 use Rattle.log_laws.proofs.Moving.{all_get}
 use Rattle.range_laws.proofs.Bounds.{call_later, answer_later, state_later, message_later, still_in}
 use Rattle.range_laws.proofs.Rules.{u64_of, id_low, refusing}
-use Rattle.range_laws.proofs.Hearing.{RequestIn}
+use Rattle.range_laws.proofs.Hearing.{RequestIn, one_number}
 use Rattle.range_laws.proofs.Stepping.{InputIn, step_in}
 use Rattle.range_laws.specs.Laws.{RecordedIn}
 use Rattle.range_laws.specs.Ranges.{AnswerIn, AnsweredIn, AreBytes, AreIds, BatchIn, CallIn, FirstIn, IsId, MessageIn, MsgIn, ReplyIn, ResponseIn, SentIn, StateIn, WantIn}
