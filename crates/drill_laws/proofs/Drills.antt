@@ -328,9 +328,9 @@ module _ (link : Link) where
         events_are = at.past_is ∙ omega (arith, x_is);
         messages_are = at.sent_is ∙ omega (arith, y_is);
         answers_are = (λ i. length (at.answers_are i)) ∙ omega (arith, z_is);
-        no_halt = at.no_halt;
-        all_hold = at.all_hold;
-        none_rolled = at.none_rolled;
+        no_halt = at.runs.no_halt;
+        all_hold = at.runs.all_hold;
+        none_rolled = at.runs.none_rolled;
       }
   all_wished seed (suc n) i m is within p e own plain events messages answers cores s pl at a newest x y z x_is y_is z_is =
       with_tick i m (omega (arith, is)) within p e own plain events messages answers cores s a newest (word seed (i - 1)) (all_wish seed n (i + 1) (a + 1)) (Ends x y z)

@@ -26,11 +26,11 @@ use Rattle.replica_model.specs.Call.{Call, Peer, moment, still}
 use Rattle.replica_model.specs.Raise.{commit_to, outcome_of, accepted_mark, promised_mark, may_promise, may_commit, promise_index, commit_index, raise, to_every_peer}
 use Rattle.replica_model.specs.Heard.{to_peer, accepted_upto, after_raise, accepted_by, accepted_heard}
 use Rattle.replica_model.specs.Graft.{is_hash}
-use Rattle.replica_model.specs.Send.{entries_from, send_append, send_appends, appended_to, stepped_down, base_moved, concluded, ended, told}
+use Rattle.replica_model.specs.Send.{entries_from, sent_on, send_append, send_appends, appended_to, stepped_down, base_moved, concluded, ended, told}
 use Rattle.replica_model.specs.Step.{step, with_end}
 use Rattle.replica_model.proofs.Paths.{conf-push}
 use Rattle.drill_laws.proofs.Numbers.{hash_same}
-use Rattle.drill_laws.proofs.Setting.{conf_of_five, Each, all, progress, leading, leader, four_of, whole, offer, acceptance, at, le_at, lt_at, max_at, min_whole, below_whole}
+use Rattle.drill_laws.proofs.Setting.{conf_of_five, Each, all, Who, Two, Three, Four, Five, each, id_of, of, set, leading, leader, four_of, whole, offer, acceptance, at, le_at, lt_at, max_at, min_whole, below_whole}
 use Rattle.drill_laws.proofs.Follows.{Did, did}
 
 and_true : (b : Bool) → (b && true) ≡ b
@@ -79,32 +79,25 @@ module _ (link : Link) (path : Path) (base a c : ℕ) (ts : List Ticket) (m r : 
   abbrev msg : Message
   msg = offer pt es a c
 
-  sends_two : (sent : List (ℕ × Message)) (y1 y2 y3 : ℕ) → send_append link (C (record { two = x; three = y1; four = y2; five = y3 }) sent) (Leader (leading (record { two = x; three = y1; four = y2; five = y3 }) m r)) 2 ≡ C (record { two = x'; three = y1; four = y2; five = y3 }) (sent ++ (2, msg) ∷ [])
-  sends_two sent y1 y2 y3 =
-      (λ i. cond (low i) (appended_to link (C (record { two = x; three = y1; four = y2; five = y3 }) sent) (leading (record { two = x; three = y1; four = y2; five = y3 }) m r) 2) (C (record { two = x; three = y1; four = y2; five = y3 }) sent))
-      ∙ (λ i. C (record { two = next_is i; three = y1; four = y2; five = y3 }) (sent ++ (2, plain (Append 1 (point_is i) (entries_is i) a c)) ∷ []))
+  sends : (v : Who) (xs : Each ℕ) (sent : List (ℕ × Message)) → of v xs ≡ x → send_append link (C xs sent) (Leader (leading xs m r)) (id_of v) ≡ C (set v x' xs) (sent ++ (id_of v, msg) ∷ [])
+  sends v xs sent here =
+      (λ i. cond (nat_lt base (known_next i)) (appended_to link (C xs sent) (leading xs m r) (id_of v)) (C xs sent))
+      ∙ (λ i. cond (low i) (appended_to link (C xs sent) (leading xs m r) (id_of v)) (C xs sent))
+      ∙ (λ i. record (C xs (sent ++ (id_of v, plain (Append 1 (point link path (known_next i - 1)) (entries_from path (known_next i)) a c)) ∷ [])) { state = leader path base a c ts (known_on i) })
+      ∙ (λ i. C (set v (next_is i) xs) (sent ++ (id_of v, plain (Append 1 (point_is i) (entries_is i) a c)) ∷ []))
+    where
+      known_next : (progress_of (leading xs m r) (id_of v)).next ≡ x
+      known_next = each (λ w. (progress_of (leading xs m r) (id_of w)).next ≡ of w xs) refl refl refl refl v ∙ here
 
-  sends_three : (sent : List (ℕ × Message)) (y0 y2 y3 : ℕ) → send_append link (C (record { two = y0; three = x; four = y2; five = y3 }) sent) (Leader (leading (record { two = y0; three = x; four = y2; five = y3 }) m r)) 3 ≡ C (record { two = y0; three = x'; four = y2; five = y3 }) (sent ++ (3, msg) ∷ [])
-  sends_three sent y0 y2 y3 =
-      (λ i. cond (low i) (appended_to link (C (record { two = y0; three = x; four = y2; five = y3 }) sent) (leading (record { two = y0; three = x; four = y2; five = y3 }) m r) 3) (C (record { two = y0; three = x; four = y2; five = y3 }) sent))
-      ∙ (λ i. C (record { two = y0; three = next_is i; four = y2; five = y3 }) (sent ++ (3, plain (Append 1 (point_is i) (entries_is i) a c)) ∷ []))
-
-  sends_four : (sent : List (ℕ × Message)) (y0 y1 y3 : ℕ) → send_append link (C (record { two = y0; three = y1; four = x; five = y3 }) sent) (Leader (leading (record { two = y0; three = y1; four = x; five = y3 }) m r)) 4 ≡ C (record { two = y0; three = y1; four = x'; five = y3 }) (sent ++ (4, msg) ∷ [])
-  sends_four sent y0 y1 y3 =
-      (λ i. cond (low i) (appended_to link (C (record { two = y0; three = y1; four = x; five = y3 }) sent) (leading (record { two = y0; three = y1; four = x; five = y3 }) m r) 4) (C (record { two = y0; three = y1; four = x; five = y3 }) sent))
-      ∙ (λ i. C (record { two = y0; three = y1; four = next_is i; five = y3 }) (sent ++ (4, plain (Append 1 (point_is i) (entries_is i) a c)) ∷ []))
-
-  sends_five : (sent : List (ℕ × Message)) (y0 y1 y2 : ℕ) → send_append link (C (record { two = y0; three = y1; four = y2; five = x }) sent) (Leader (leading (record { two = y0; three = y1; four = y2; five = x }) m r)) 5 ≡ C (record { two = y0; three = y1; four = y2; five = x' }) (sent ++ (5, msg) ∷ [])
-  sends_five sent y0 y1 y2 =
-      (λ i. cond (low i) (appended_to link (C (record { two = y0; three = y1; four = y2; five = x }) sent) (leading (record { two = y0; three = y1; four = y2; five = x }) m r) 5) (C (record { two = y0; three = y1; four = y2; five = x }) sent))
-      ∙ (λ i. C (record { two = y0; three = y1; four = y2; five = next_is i }) (sent ++ (5, plain (Append 1 (point_is i) (entries_is i) a c)) ∷ []))
+      known_on : with_progress (leading xs m r) (id_of v) (sent_on path (progress_of (leading xs m r) (id_of v))) ≡ leading (set v (x + length (entries_from path x)) xs) m r
+      known_on = each (λ w. with_progress (leading xs m r) (id_of w) (sent_on path (progress_of (leading xs m r) (id_of w))) ≡ leading (set w (of w xs + length (entries_from path (of w xs))) xs) m r) refl refl refl refl v ∙ (λ i. leading (set v (here i + length (entries_from path (here i))) xs) m r)
 
   pub all_sent : send_appends link (C (all x) []) (2 ∷ 3 ∷ 4 ∷ 5 ∷ []) ≡ record (C (all x') (four_of msg)) { appends = [] }
   all_sent =
-      (λ i. send_appends link (sends_two [] x x x i) (3 ∷ 4 ∷ 5 ∷ []))
-      ∙ (λ i. send_appends link (sends_three ((2, msg) ∷ []) x' x x i) (4 ∷ 5 ∷ []))
-      ∙ (λ i. send_appends link (sends_four ((2, msg) ∷ (3, msg) ∷ []) x' x' x i) (5 ∷ []))
-      ∙ (λ i. send_appends link (sends_five ((2, msg) ∷ (3, msg) ∷ (4, msg) ∷ []) x' x' x' i) [])
+      (λ i. send_appends link (sends Two (all x) [] refl i) (3 ∷ 4 ∷ 5 ∷ []))
+      ∙ (λ i. send_appends link (sends Three (record (all x) { two = x' }) ((2, msg) ∷ []) refl i) (4 ∷ 5 ∷ []))
+      ∙ (λ i. send_appends link (sends Four (record (all x') { four = x; five = x }) ((2, msg) ∷ (3, msg) ∷ []) refl i) (5 ∷ []))
+      ∙ (λ i. send_appends link (sends Five (record (all x') { five = x }) ((2, msg) ∷ (3, msg) ∷ (4, msg) ∷ []) refl i) [])
 
   -- the end of such a call
   pub ends_sent : (no_members : IsPlain path) → ended link (C (all x) []) None ≡ record (C (all x') (four_of msg)) { state = leader path (max base (c - KEPT_BELOW)) a c ts (leading (all x') m r); appends = [] }
@@ -359,42 +352,31 @@ module _ (link : Link) (q : Path) (n : ℕ) (long : length q ≡ n + 1) (no_memb
     promise_is : (b x : Bool) → max (A b) (min (A x) (length q)) ≡ A (b || x)
     promise_is b x = (λ i. max (A b) (min_whole q n long x i)) ∙ max_at q n long b x
 
-    pub hears_two : (x : Bool) → Did (step link (leads pr cm m r) (Peer 2 (acceptance (whole link q) (A x)))) (after next pr cm (record m { two = true }) (record r { two = r.two || x }) next) (cond (rose pr cm (record m { two = true }) (record r { two = r.two || x })) (four_of (more pr cm (record m { two = true }) (record r { two = r.two || x }))) []) (cond cm [] (cond (k next pr cm (record m { two = true }) (record r { two = r.two || x })) (outcomes q o) []))
-    hears_two x =
-        did _ _ _ _ _ (λ i. told (with_end link (heard i))) (ended_by pr cm (record m { two = true }) (record r { two = r.two || x }) (rose pr cm (record m { two = true }) (record r { two = r.two || x })))
-      where
-        heard : accepted_heard link (leads pr cm m r) (Leader (known m r)) 2 (whole link q) (A x) ≡ cond (rose pr cm (record m { two = true }) (record r { two = r.two || x })) (done next pr cm (record m { two = true }) (record r { two = r.two || x }) (2 ∷ 3 ∷ 4 ∷ 5 ∷ [])) (done next pr cm (record m { two = true }) (record r { two = r.two || x }) [])
-        heard =
-            (λ i. cond (is_in (peers_are q no_members (A cm - KEPT_BELOW) (A pr) (A cm) (T cm) (all next) (As m) (As r) i) 2 && matched i) (accepted_by (leads pr cm m r) (with_progress (known m r) 2 (accepted_upto (progress_of (known m r) 2) (length q) (A x))) 2) (still (leads pr cm m r)))
-            ∙ (λ i. accepted_by (leads pr cm m r) (record { progress = (2, progress (next_is i) (mark_is m.two i) (promise_is r.two x i)) ∷ (3, progress next (A m.three) (A r.three)) ∷ (4, progress next (A m.four) (A r.four)) ∷ (5, progress next (A m.five) (A r.five)) ∷ []; learners = []; sendings = [] }) 2)
-            ∙ after_is pr cm (record m { two = true }) (record r { two = r.two || x }) (leads pr cm m r) 2 refl refl refl refl
+    module _ (v : Who) (x : Bool) where
+      abbrev m' : Each Bool
+      m' = set v true m
 
-    pub hears_three : (x : Bool) → Did (step link (leads pr cm m r) (Peer 3 (acceptance (whole link q) (A x)))) (after next pr cm (record m { three = true }) (record r { three = r.three || x }) next) (cond (rose pr cm (record m { three = true }) (record r { three = r.three || x })) (four_of (more pr cm (record m { three = true }) (record r { three = r.three || x }))) []) (cond cm [] (cond (k next pr cm (record m { three = true }) (record r { three = r.three || x })) (outcomes q o) []))
-    hears_three x =
-        did _ _ _ _ _ (λ i. told (with_end link (heard i))) (ended_by pr cm (record m { three = true }) (record r { three = r.three || x }) (rose pr cm (record m { three = true }) (record r { three = r.three || x })))
-      where
-        heard : accepted_heard link (leads pr cm m r) (Leader (known m r)) 3 (whole link q) (A x) ≡ cond (rose pr cm (record m { three = true }) (record r { three = r.three || x })) (done next pr cm (record m { three = true }) (record r { three = r.three || x }) (2 ∷ 3 ∷ 4 ∷ 5 ∷ [])) (done next pr cm (record m { three = true }) (record r { three = r.three || x }) [])
-        heard =
-            (λ i. cond (is_in (peers_are q no_members (A cm - KEPT_BELOW) (A pr) (A cm) (T cm) (all next) (As m) (As r) i) 3 && matched i) (accepted_by (leads pr cm m r) (with_progress (known m r) 3 (accepted_upto (progress_of (known m r) 3) (length q) (A x))) 3) (still (leads pr cm m r)))
-            ∙ (λ i. accepted_by (leads pr cm m r) (record { progress = (2, progress next (A m.two) (A r.two)) ∷ (3, progress (next_is i) (mark_is m.three i) (promise_is r.three x i)) ∷ (4, progress next (A m.four) (A r.four)) ∷ (5, progress next (A m.five) (A r.five)) ∷ []; learners = []; sendings = [] }) 3)
-            ∙ after_is pr cm (record m { three = true }) (record r { three = r.three || x }) (leads pr cm m r) 3 refl refl refl refl
+      abbrev r' : Each Bool
+      r' = set v (of v r || x) r
 
-    pub hears_four : (x : Bool) → Did (step link (leads pr cm m r) (Peer 4 (acceptance (whole link q) (A x)))) (after next pr cm (record m { four = true }) (record r { four = r.four || x }) next) (cond (rose pr cm (record m { four = true }) (record r { four = r.four || x })) (four_of (more pr cm (record m { four = true }) (record r { four = r.four || x }))) []) (cond cm [] (cond (k next pr cm (record m { four = true }) (record r { four = r.four || x })) (outcomes q o) []))
-    hears_four x =
-        did _ _ _ _ _ (λ i. told (with_end link (heard i))) (ended_by pr cm (record m { four = true }) (record r { four = r.four || x }) (rose pr cm (record m { four = true }) (record r { four = r.four || x })))
-      where
-        heard : accepted_heard link (leads pr cm m r) (Leader (known m r)) 4 (whole link q) (A x) ≡ cond (rose pr cm (record m { four = true }) (record r { four = r.four || x })) (done next pr cm (record m { four = true }) (record r { four = r.four || x }) (2 ∷ 3 ∷ 4 ∷ 5 ∷ [])) (done next pr cm (record m { four = true }) (record r { four = r.four || x }) [])
-        heard =
-            (λ i. cond (is_in (peers_are q no_members (A cm - KEPT_BELOW) (A pr) (A cm) (T cm) (all next) (As m) (As r) i) 4 && matched i) (accepted_by (leads pr cm m r) (with_progress (known m r) 4 (accepted_upto (progress_of (known m r) 4) (length q) (A x))) 4) (still (leads pr cm m r)))
-            ∙ (λ i. accepted_by (leads pr cm m r) (record { progress = (2, progress next (A m.two) (A r.two)) ∷ (3, progress next (A m.three) (A r.three)) ∷ (4, progress (next_is i) (mark_is m.four i) (promise_is r.four x i)) ∷ (5, progress next (A m.five) (A r.five)) ∷ []; learners = []; sendings = [] }) 4)
-            ∙ after_is pr cm (record m { four = true }) (record r { four = r.four || x }) (leads pr cm m r) 4 refl refl refl refl
+      is_one : is_in (2 ∷ 3 ∷ 4 ∷ 5 ∷ []) (id_of v) ≡ true
+      is_one = each (λ w. is_in (2 ∷ 3 ∷ 4 ∷ 5 ∷ []) (id_of w) ≡ true) refl refl refl refl v
 
-    pub hears_five : (x : Bool) → Did (step link (leads pr cm m r) (Peer 5 (acceptance (whole link q) (A x)))) (after next pr cm (record m { five = true }) (record r { five = r.five || x }) next) (cond (rose pr cm (record m { five = true }) (record r { five = r.five || x })) (four_of (more pr cm (record m { five = true }) (record r { five = r.five || x }))) []) (cond cm [] (cond (k next pr cm (record m { five = true }) (record r { five = r.five || x })) (outcomes q o) []))
-    hears_five x =
-        did _ _ _ _ _ (λ i. told (with_end link (heard i))) (ended_by pr cm (record m { five = true }) (record r { five = r.five || x }) (rose pr cm (record m { five = true }) (record r { five = r.five || x })))
-      where
-        heard : accepted_heard link (leads pr cm m r) (Leader (known m r)) 5 (whole link q) (A x) ≡ cond (rose pr cm (record m { five = true }) (record r { five = r.five || x })) (done next pr cm (record m { five = true }) (record r { five = r.five || x }) (2 ∷ 3 ∷ 4 ∷ 5 ∷ [])) (done next pr cm (record m { five = true }) (record r { five = r.five || x }) [])
-        heard =
-            (λ i. cond (is_in (peers_are q no_members (A cm - KEPT_BELOW) (A pr) (A cm) (T cm) (all next) (As m) (As r) i) 5 && matched i) (accepted_by (leads pr cm m r) (with_progress (known m r) 5 (accepted_upto (progress_of (known m r) 5) (length q) (A x))) 5) (still (leads pr cm m r)))
-            ∙ (λ i. accepted_by (leads pr cm m r) (record { progress = (2, progress next (A m.two) (A r.two)) ∷ (3, progress next (A m.three) (A r.three)) ∷ (4, progress next (A m.four) (A r.four)) ∷ (5, progress (next_is i) (mark_is m.five i) (promise_is r.five x i)) ∷ []; learners = []; sendings = [] }) 5)
-            ∙ after_is pr cm (record m { five = true }) (record r { five = r.five || x }) (leads pr cm m r) 5 refl refl refl refl
+      -- what it knows of it then
+      learnt : with_progress (known m r) (id_of v) (accepted_upto (progress_of (known m r) (id_of v)) (length q) (A x)) ≡ known m' r'
+      learnt =
+          each (λ w. with_progress (known m r) (id_of w) (accepted_upto (progress_of (known m r) (id_of w)) (length q) (A x)) ≡ known (set w true m) (set w (of w r || x) r))
+          (λ i. leading (set Two (next_is i) (all next)) (set Two (mark_is m.two i) (As m)) (set Two (promise_is r.two x i) (As r)))
+          (λ i. leading (set Three (next_is i) (all next)) (set Three (mark_is m.three i) (As m)) (set Three (promise_is r.three x i) (As r)))
+          (λ i. leading (set Four (next_is i) (all next)) (set Four (mark_is m.four i) (As m)) (set Four (promise_is r.four x i) (As r)))
+          (λ i. leading (set Five (next_is i) (all next)) (set Five (mark_is m.five i) (As m)) (set Five (promise_is r.five x i) (As r)))
+          v
+
+      heard : accepted_heard link (leads pr cm m r) (Leader (known m r)) (id_of v) (whole link q) (A x) ≡ cond (rose pr cm m' r') (done next pr cm m' r' (2 ∷ 3 ∷ 4 ∷ 5 ∷ [])) (done next pr cm m' r' [])
+      heard =
+          (λ i. cond (is_in (peers_are q no_members (A cm - KEPT_BELOW) (A pr) (A cm) (T cm) (all next) (As m) (As r) i) (id_of v) && matched i) (accepted_by (leads pr cm m r) (learnt i) (id_of v)) (still (leads pr cm m r)))
+          ∙ (λ i. cond (is_one i && true) (accepted_by (leads pr cm m r) (known m' r') (id_of v)) (still (leads pr cm m r)))
+          ∙ after_is pr cm m' r' (leads pr cm m r) (id_of v) refl refl refl (each (λ w. (progress_of (known m' r') (id_of w)).next ≡ next) refl refl refl refl v)
+
+      pub hears : Did (step link (leads pr cm m r) (Peer (id_of v) (acceptance (whole link q) (A x)))) (after next pr cm m' r' next) (cond (rose pr cm m' r') (four_of (more pr cm m' r')) []) (cond cm [] (cond (k next pr cm m' r') (outcomes q o) []))
+      hears = did _ _ _ _ _ (λ i. told (with_end link (heard i))) (ended_by pr cm m' r' (rose pr cm m' r'))

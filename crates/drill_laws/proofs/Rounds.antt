@@ -1,34 +1,8 @@
 -- A round of one entry among five replicas, by what each of them has come to.
 use Rattle.std.proofs.Common.{◌≡◌, ℕ, zero, suc, ◌+◌, ◌&&◌, ◌||◌, not, Bool, true, false, List, [], ◌∷◌, ◌++◌, refl}
 use Rattle.std.specs.Prelude.{nat_lt, cond}
-use Rattle.drill_laws.proofs.Setting.{Each, all}
+use Rattle.drill_laws.proofs.Setting.{Each, all, Who, Two, Three, Four, Five, of, set}
 use Rattle.drill_laws.proofs.Leads.{enough}
-
--- the followers
-pub data Who : Type 0 where
-  Two : Who
-  Three : Who
-  Four : Who
-  Five : Who
-
-abbrev pub id_of : Who → ℕ
-id_of Two = 2
-id_of Three = 3
-id_of Four = 4
-id_of Five = 5
-
-module _ {A : Type 0} where
-  abbrev pub of : Who → Each A → A
-  of Two e = e.two
-  of Three e = e.three
-  of Four e = e.four
-  of Five e = e.five
-
-  abbrev pub set : Who → A → Each A → Each A
-  set Two a e = record e { two = a }
-  set Three a e = record e { three = a }
-  set Four a e = record e { four = a }
-  set Five a e = record e { five = a }
 
 -- whether a follower has the entry, has promised it, and has committed it
 pub record Has : Type 0 where

@@ -47,6 +47,39 @@ pub record Each (A : Type 0) : Type 0 where
 abbrev pub all : {A : Type 0} → A → Each A
 all a = record { two = a; three = a; four = a; five = a }
 
+-- the followers
+pub data Who : Type 0 where
+  Two : Who
+  Three : Who
+  Four : Who
+  Five : Who
+
+-- what holds of each of the four
+pub each : (P : Who → Type 0) → P Two → P Three → P Four → P Five → (v : Who) → P v
+each P a b c d Two = a
+each P a b c d Three = b
+each P a b c d Four = c
+each P a b c d Five = d
+
+abbrev pub id_of : Who → ℕ
+id_of Two = 2
+id_of Three = 3
+id_of Four = 4
+id_of Five = 5
+
+module _ {A : Type 0} where
+  abbrev pub of : Who → Each A → A
+  of Two e = e.two
+  of Three e = e.three
+  of Four e = e.four
+  of Five e = e.five
+
+  abbrev pub set : Who → A → Each A → Each A
+  set Two a e = record e { two = a }
+  set Three a e = record e { three = a }
+  set Four a e = record e { four = a }
+  set Five a e = record e { five = a }
+
 abbrev pub progress : ℕ → ℕ → ℕ → Progress
 progress next mark promised = record { next = next; mark = mark; promised = promised }
 

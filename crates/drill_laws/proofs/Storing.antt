@@ -39,9 +39,9 @@ use Rattle.drill_laws.proofs.Numbers.{same_bytes}
 use Rattle.drill_laws.proofs.Leads.{IsPlain}
 use Rattle.drill_laws.proofs.Asking.{ask, ask_plain, ask_long}
 use Rattle.drill_laws.proofs.Events.{want_goes}
-use Rattle.drill_laws.proofs.Simulated.{restated}
+use Rattle.drill_laws.proofs.Worlds.{restated}
 use Rattle.drill_laws.proofs.Plays.{Plays}
-use Rattle.drill_laws.proofs.Exchanges.{put_length, agreed, Calm, outcome, exchange_plays}
+use Rattle.drill_laws.proofs.Exchanges.{put_length, Calm, outcome, exchange_plays}
 use Rattle.drill_laws.proofs.Tables.{table_after, reply_after, row_put}
 use Rattle.drill_laws.proofs.Clients.{core_put, IsWish}
 
@@ -161,7 +161,7 @@ module _ (link : Link) (p : Path) (no_members : IsPlain p) (events messages : �
       exposes t at =
           exchange_plays link p1 plain1 (events + 1 + 26) (messages + 24) answers1 cores2 (omega (arith, few_events)) (omega (arith, few_messages)) (omega (arith, few_answers, count1)) (omega (arith, few_cores, put_length cores c core1, put_length cores1 c core2))
           t rest Q at c core2 ready 2 x (Applied (Exposed OK)) (Some report.Stored) (a + 1) (core_put cores1 c core2) refl reads_on (omega (arith, low, long1)) reply2 refl (omega (arith, newest, count1))
-          (λ u at'. next u (restated u.group [] [] (agreed path_stored) (events + 1 + 26 + 26) (events + 53) (messages + 24 + 24) (messages + 48) answers_stored answers_stored cores_stored refl (omega arith) (omega arith) refl at'))
+          (λ u at'. next u (restated at' refl refl (omega arith) (omega arith) refl))
 
       backs_up : (t : Playing Message Enclaves) → Calm t.group p (events + 1) messages answers cores1 → Plays link t (event.Say c 1 ∷ event.Settle 24 ∷ event.Hear c a ∷ event.Say c 1 ∷ event.Settle 24 ∷ event.Hear c (a + 1) ∷ rest) Q
       backs_up t at =
@@ -171,8 +171,8 @@ module _ (link : Link) (p : Path) (no_members : IsPlain p) (events messages : �
       pub store_plays : Plays link pl (event.Want c w ∷ event.Say c 1 ∷ event.Settle 24 ∷ event.Hear c a ∷ event.Say c 1 ∷ event.Settle 24 ∷ event.Hear c (a + 1) ∷ rest) Q
       store_plays = (
         tt,
-        want_goes link pl (λ t. Plays link t (event.Say c 1 ∷ event.Settle 24 ∷ event.Hear c a ∷ event.Say c 1 ∷ event.Settle 24 ∷ event.Hear c (a + 1) ∷ rest) Q) (agreed p) events messages answers cores (omega (arith, few_events))
-            [] calm_at c w core1 wanted_is (omega (arith, few_messages), omega (arith, few_answers), omega (arith, few_cores, put_length cores c core1)) backs_up,
+        want_goes link pl (λ t. Plays link t (event.Say c 1 ∷ event.Settle 24 ∷ event.Hear c a ∷ event.Say c 1 ∷ event.Settle 24 ∷ event.Hear c (a + 1) ∷ rest) Q) calm_at (omega (arith, few_events))
+            c w core1 wanted_is (omega (arith, few_messages), omega (arith, few_answers), omega (arith, few_cores, put_length cores c core1)) backs_up,
       )
 
   -- a client that has stored wants something else
@@ -220,10 +220,10 @@ module _ (link : Link) (p : Path) (no_members : IsPlain p) (events messages : �
       pub wish_plays : Plays link pl (event.Want c w ∷ event.Say c 1 ∷ event.Settle 24 ∷ event.Hear c a ∷ rest) Q
       wish_plays = (
         tt,
-        want_goes link pl (λ t. Plays link t (event.Say c 1 ∷ event.Settle 24 ∷ event.Hear c a ∷ rest) Q) (agreed p) events messages answers cores (omega (arith, few_events))
-            [] calm_at c w core3 wish_is (omega (arith, few_messages), omega (arith, few_answers), omega (arith, few_cores, put_length cores c core3))
+        want_goes link pl (λ t. Plays link t (event.Say c 1 ∷ event.Settle 24 ∷ event.Hear c a ∷ rest) Q) calm_at (omega (arith, few_events))
+            c w core3 wish_is (omega (arith, few_messages), omega (arith, few_answers), omega (arith, few_cores, put_length cores c core3))
             (λ t at.
             exchange_plays link p no_members (events + 1) messages answers cores3 (omega (arith, few_events)) (omega (arith, few_messages)) (omega (arith, few_answers)) (omega (arith, few_cores, put_length cores c core3))
             t rest Q at c core3 hearing.0 3 (first_request w) reply hearing.1 a (core_put cores c core3) refl wish.reads (omega (arith, low)) (reply_after MOST_ROWS p 1 c 3 (first_request w) wish.reads) refl newest
-            (λ u at'. next u (restated u.group [] [] (agreed path_wished) (events + 1 + 26) (events + 27) (messages + 24) (messages + 24) answers_wished answers_wished cores_wished refl (omega arith) refl refl at'))),
+            (λ u at'. next u (restated at' refl refl (omega arith) refl refl))),
       )
