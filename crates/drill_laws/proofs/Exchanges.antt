@@ -31,8 +31,8 @@ use Rattle.drill_laws.proofs.Asking.{ask, ask_plain, asked_for, calm, asks}
 use Rattle.drill_laws.proofs.Queue.{at_first}
 use Rattle.drill_laws.proofs.Worlds.{At, Room, restated, noted}
 use Rattle.drill_laws.proofs.Events.{call_goes, hear_goes}
-use Rattle.drill_laws.proofs.Rounds.{begins, entry_fits, entry_ends}
-use Rattle.drill_laws.proofs.Simulated.{simulated, Stands}
+use Rattle.drill_laws.proofs.Rounds.{begins, settles, entry_fits, entry_ends}
+use Rattle.drill_laws.proofs.Simulated.{simulated}
 use Rattle.drill_laws.proofs.Plays.{Plays}
 
 pub put_length : (cores : List (ClientId × Core)) (c : ClientId) (core : Core) → length (put_core cores c core) ≤ length cores + 1
@@ -102,15 +102,6 @@ module _ (link : Link) (p : Path) (no_members : IsPlain p) (events messages : �
       few_steps : events + 1 + 32 ≤ 1000000
       few_steps = omega (arith, few_events)
 
-      settling : (t : Playing Message Enclaves) → Stands link 1 p (ask link p no_members c number request) refl (ask_plain link p no_members c number request) (asked_for link p no_members c number request) (events + 1) (messages + 4) answers cores few_steps few_news t.group begins → Plays link t (event.Settle 24 ∷ event.Hear c a ∷ rest) Q
-      settling t at = (
-        tt,
-        simulated link 1 p (ask link p no_members c number request) refl (ask_plain link p no_members c number request) (asked_for link p no_members c number request) (events + 1) (messages + 4) answers cores few_steps few_news
-            (λ u. Plays link u (event.Hear c a ∷ rest) Q) 24 begins entry_fits t at
-            (λ u at'. hears u (restated (subst (λ k. Stands link 1 p (ask link p no_members c number request) refl (ask_plain link p no_members c number request) (asked_for link p no_members c number request) (events + 1) (messages + 4) answers cores few_steps few_news u.group k) entry_ends at')
-            refl refl (omega arith) (omega arith) (λ i. answers ++ news_is i))),
-      )
-
       pub exchange_plays : Plays link pl (event.Say c 1 ∷ event.Settle 24 ∷ event.Hear c a ∷ rest) Q
       exchange_plays = (
         tt,
@@ -120,5 +111,10 @@ module _ (link : Link) (p : Path) (no_members : IsPlain p) (events messages : �
             ∙ (λ i. happening.says (enclaves link) c 1 (said_is i) (noted link pl (event.Say c 1))))
             (enclave_of 1 (calm link p no_members c number request)) refl tt (asks link p no_members c number request (canonical_request request) reads low) refl
             (omega (arith, few_messages), omega (arith, few_answers, ap (λ (xs : List Answered). length xs) (append-nil answers)), omega (arith, few_cores))
-            (λ t at. settling t (restated at refl refl (omega arith) (omega arith) refl)),
+            (λ t at. (
+              tt,
+              simulated link 1 p (ask link p no_members c number request) refl (ask_plain link p no_members c number request) (asked_for link p no_members c number request) (events + 1) (messages + 4) answers cores few_steps few_news
+                  (λ u. Plays link u (event.Hear c a ∷ rest) Q) 24 begins (settles 24 20) entry_fits entry_ends t (restated at refl refl (omega arith) (omega arith) refl)
+                  (λ u at'. hears u (restated at' refl refl (omega arith) (omega arith) (λ i. answers ++ news_is i))),
+            )),
       )

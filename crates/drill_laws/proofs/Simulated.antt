@@ -46,9 +46,12 @@ module _ (link : Link) (known : ℕ) (p : Path) (e : LogEntry) (own : e.term ≡
   abbrev follows : ℕ → Has → Replica
   follows v h = follower v (cond h.entry 1 known) (cond h.entry q p) (A h.promised) (A h.committed)
 
+  abbrev led : Course → Replica
+  led c = leads link q (length p) long no_members own_term o c.promised c.committed c.marks c.promises
+
   abbrev pub runs : Course → List (ℕ × Enclave)
   runs c =
-      (1, enclave_at 1 (leads link q (length p) long no_members own_term o c.promised c.committed c.marks c.promises))
+      (1, enclave_at 1 (led c))
       ∷ (2, enclave_at 2 (follows 2 c.followers.two))
       ∷ (3, enclave_at 3 (follows 3 c.followers.three))
       ∷ (4, enclave_at 4 (follows 4 c.followers.four))
@@ -58,9 +61,6 @@ module _ (link : Link) (known : ℕ) (p : Path) (e : LogEntry) (own : e.term ≡
   -- what they say to each other is handed to their replicas
   follower_called : (v : Who) (h : Has) (m : Message) → called link (enclave_at (id_of v) (follows (id_of v) h)) (Peer 1 (id_of v) m) ≡ calls (enclave_at (id_of v) (follows (id_of v) h)) (step_of link (follows (id_of v) h) (step.Peer 1 m))
   follower_called v h m = each (λ w. called link (enclave_at (id_of w) (follows (id_of w) h)) (Peer 1 (id_of w) m) ≡ calls (enclave_at (id_of w) (follows (id_of w) h)) (step_of link (follows (id_of w) h) (step.Peer 1 m))) refl refl refl refl v
-
-  abbrev led : Course → Replica
-  led c = leads link q (length p) long no_members own_term o c.promised c.committed c.marks c.promises
 
   leader_called : (v : Who) (c : Course) (m : Message) → called link (enclave_at 1 (led c)) (Peer (id_of v) 1 m) ≡ calls (enclave_at 1 (led c)) (step_of link (led c) (step.Peer (id_of v) m))
   leader_called v c m = each (λ w. called link (enclave_at 1 (led c)) (Peer (id_of w) 1 m) ≡ calls (enclave_at 1 (led c)) (step_of link (led c) (step.Peer (id_of w) m))) refl refl refl refl v
@@ -155,7 +155,7 @@ module _ (link : Link) (known : ℕ) (p : Path) (e : LogEntry) (own : e.term ≡
           let cm : Bool = c.committed || k in
           let rose : Bool = (not c.promised && pr) || (not c.committed && cm) in
           delivery_goes link pl P st (omega (arith, few, steps)) refl
-          (enclave_at 1 (leads link q (length p) long no_members own_term o c.promised c.committed c.marks c.promises)) refl tt
+          (enclave_at 1 (led c)) refl tt
           (hears link q (length p) long no_members own_term o c.promised c.committed c.marks c.promises v x) (leader_called v c (acceptance (whole link q) (A x)))
           (omega (arith, room.0, sent, raised_count rose pr cm, few_raised rose), few_same _ cm (answers_on c.committed k), room.2) n
           (λ t a. next t (restated a ((λ i. map mail_of rest ++ raised_mail rose pr cm i) ∙ sym (map-append mail_of rest (cond rose (raised_to_all pr cm) []))) refl
@@ -168,12 +168,12 @@ module _ (link : Link) (known : ℕ) (p : Path) (e : LogEntry) (own : e.term ≡
       step_goes (Taken v x ∷ rest) fit = taken_steps v x rest
 
     -- so many messages are delivered
-    pub simulated : (P : Playing Message Enclaves → Type 0) (n : ℕ) (c : Course) → all_fit n c ≡ true → (pl : Playing Message Enclaves) → Stands pl.group c
-        → ((t : Playing Message Enclaves) → Stands t.group (after_steps n c) → P t) → Goes (settled (enclaves link) n pl) P
-    simulated P zero c fit pl st next = next pl st
-    simulated P (suc n) c fit pl st next =
+    pub simulated : (P : Playing Message Enclaves → Type 0) (n : ℕ) (c after : Course) → all_fit n c ≡ true → after_steps n c ≡ after → (pl : Playing Message Enclaves) → Stands pl.group c
+        → ((t : Playing Message Enclaves) → Stands t.group after → P t) → Goes (settled (enclaves link) n pl) P
+    simulated P zero c after fit ends pl st next = next pl (subst (λ (k : Course). Stands pl.group k) ends st)
+    simulated P (suc n) c after fit ends pl st next =
         let parts = and_parts (fits c c.queue && (nat_lt c.steps 32 && nat_lt c.sent 40)) (all_fit n (goes c)) fit in
         let first = and_parts (fits c c.queue) (nat_lt c.steps 32 && nat_lt c.sent 40) parts.0 in
         let counts = and_parts (nat_lt c.steps 32) (nat_lt c.sent 40) first.1 in
         step_goes P n pl c (ltb-true c.steps 32 counts.0) (ltb-true c.sent 40 counts.1) c.queue first.0 st
-        (λ t st'. simulated P n (goes c) parts.1 t st' next)
+        (λ t st'. simulated P n (goes c) after parts.1 ends t st' next)

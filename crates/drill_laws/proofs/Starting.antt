@@ -20,7 +20,7 @@ use Rattle.drill_laws.proofs.Leads.{IsPlain, leads}
 use Rattle.drill_laws.proofs.Asking.{ticks}
 use Rattle.drill_laws.proofs.Worlds.{Goes, Room, restated}
 use Rattle.drill_laws.proofs.Events.{call_goes}
-use Rattle.drill_laws.proofs.Rounds.{begins, ticked, entry_fits, entry_ends, tick_fits, tick_ends}
+use Rattle.drill_laws.proofs.Rounds.{begins, ticked, settles, entry_fits, entry_ends, tick_fits, tick_ends}
 use Rattle.drill_laws.proofs.Simulated.{simulated, Stands, long, own_term}
 use Rattle.drill_laws.proofs.Plays.{Plays, goes_last, settled_on}
 use Rattle.drill_laws.proofs.Exchanges.{enclave_of, Calm}
@@ -78,8 +78,7 @@ module _ (link : Link) where
         tt,
         settled_on link 8 24 second (λ t. Plays link t rest Q)
             (goes_last (λ t. Goes (settled (enclaves link) 24 t) (λ u. Plays link u rest Q)) (settled (enclaves link) 8 second) refl
-            (simulated link 0 [] noop refl noop_plain None 10 12 [] [] few_steps few_sent (λ t. Plays link t rest Q) 24 begins entry_fits elected elected_stands
-            (λ u at. next u (subst (λ k. Stands link 0 [] noop refl noop_plain None 10 12 [] [] few_steps few_sent u.group k) entry_ends at)))),
+            (simulated link 0 [] noop refl noop_plain None 10 12 [] [] few_steps few_sent (λ t. Plays link t rest Q) 24 begins (settles 24 20) entry_fits entry_ends elected elected_stands next)),
       ),
     ),
   )
@@ -98,14 +97,6 @@ module _ (link : Link) (p : Path) (e : LogEntry) (own : e.term ≡ 1) (no_member
   room_after : Room (messages + 4 + 44) (answers ++ []) cores
   room_after = (omega (arith, few_messages), subst (λ (xs : List Answered). length xs ≤ 1000000) (sym (append-nil answers)) few_answers, few_cores)
 
-  settling : (t : Playing Message Enclaves) → Stands link 1 p e own no_members None (events + 1) (messages + 4) answers cores few_after room_after t.group ticked → Plays link t (event.Settle 8 ∷ rest) Q
-  settling t at = (
-    tt,
-    simulated link 1 p e own no_members None (events + 1) (messages + 4) answers cores few_after room_after (λ u. Plays link u rest Q) 8 ticked tick_fits t at
-        (λ u at'. next u (restated (subst (λ k. Stands link 1 p e own no_members None (events + 1) (messages + 4) answers cores few_after room_after u.group k) tick_ends at')
-        refl refl (omega arith) (omega arith) (append-nil answers))),
-  )
-
   pub tick_plays : Plays link pl (event.Tick 1 ∷ event.Settle 8 ∷ rest) Q
   tick_plays = (
     tt,
@@ -113,5 +104,9 @@ module _ (link : Link) (p : Path) (e : LogEntry) (own : e.term ≡ 1) (no_member
         (enclave_of 1 (leads link q (length p) (long link 1 p e own no_members None) no_members (own_term link 1 p e own no_members None) None true true (all true) (all true))) refl tt
         (ticks link q (length p) (long link 1 p e own no_members None) no_members (own_term link 1 p e own no_members None) None) refl
         (omega (arith, few_messages), subst (λ (xs : List Answered). length xs ≤ 1000000) (sym (append-nil answers)) few_answers, few_cores)
-        (λ t at. settling t (restated at refl refl (omega arith) (omega arith) refl)),
+        (λ t at. (
+          tt,
+          simulated link 1 p e own no_members None (events + 1) (messages + 4) answers cores few_after room_after (λ u. Plays link u rest Q) 8 ticked (settles 8 4) tick_fits tick_ends t
+              (restated at refl refl (omega arith) (omega arith) refl) (λ u at'. next u (restated at' refl refl (omega arith) (omega arith) (append-nil answers))),
+        )),
   )
