@@ -64,10 +64,10 @@ Calm w p events messages answers cores = At w [] (agreed p) events messages answ
 abbrev pub outcome : ClientId → ℕ → ℕ → Reply → Answered
 outcome c number index reply = record { replica = 1; client = c; number = number; answer = Outcome index reply }
 
-module _ (link : Link) (p : Path) (no_members : IsPlain p) (events messages : ℕ) (answers : List Answered) (cores : List (ClientId × Core))
-    (few_events : events + 40 ≤ 1000000) (few_messages : messages + 60 ≤ 200000) (few_answers : length answers + 1 ≤ 1000000) (few_cores : length cores + 1 ≤ 20000)
-    (pl : Playing Message Enclaves) (rest : List Event) (Q : Playing Message Enclaves → Type 0) where
-  module _ (calm_at : Calm pl.group p events messages answers cores) (c : ClientId) (core after : Core) (number : ℕ) (request : Request) (reply : Reply) (report : Option Report) (a : ℕ)
+module _ (link : Link) (p : Path) (no_members : IsPlain p) (pl : Playing Message Enclaves) (rest : List Event) (Q : Playing Message Enclaves → Type 0)
+    {events messages : ℕ} {answers : List Answered} {cores : List (ClientId × Core)} (calm_at : Calm pl.group p events messages answers cores)
+    (few_events : events + 40 ≤ 1000000) (few_messages : messages + 60 ≤ 200000) (few_answers : length answers + 1 ≤ 1000000) (few_cores : length cores + 1 ≤ 20000) where
+  module _ (c : ClientId) (core after : Core) (number : ℕ) (request : Request) (reply : Reply) (report : Option Report) (a : ℕ)
       (core_is : core_of cores c ≡ Some core) (said_is : said core ≡ Some (number, canonical_request request)) (reads : request_of (canonical_request request) ≡ Ok request)
       (low : length p < TOP) where
     abbrev q : Path
