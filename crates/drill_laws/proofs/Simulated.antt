@@ -1,5 +1,5 @@
 -- Messages of a round are delivered as its course says.
-use Rattle.std.proofs.Common.{◌≡◌, ℕ, zero, suc, ◌+◌, ◌≤◌, ◌<◌, ◌&&◌, ◌||◌, not, Bool, true, false, Option, Some, List, [], ◌∷◌, ◌++◌, length, map, refl, sym, subst, ◌∙◌, arith}
+use Rattle.std.proofs.Common.{◌≡◌, ℕ, zero, suc, ◌+◌, ◌≤◌, ◌<◌, ◌&&◌, ◌||◌, Bool, true, false, Option, Some, List, [], ◌∷◌, ◌++◌, length, map, refl, sym, subst, ◌∙◌, arith}
 use Rattle.std.specs.Prelude.{nat_lt, cond}
 use Rattle.std.proofs.lemmas.Bool.{and_parts, or_parts, ltb-true, not-true}
 use Rattle.std.proofs.lemmas.List.{append-nil, append_assoc, length-append, map-append}
@@ -8,7 +8,7 @@ use Rattle.values.specs.declared.entry.LogEntry.{LogEntry}
 use Rattle.values.specs.declared.ids.ClientId.{ClientId}
 use Rattle.values.specs.declared.limits.TheConstants.{MOST_ROWS}
 use Rattle.record_rules.specs.Places.{ClientAsk}
-use Rattle.replica_model.specs.Path.{Path, Link, term_at}
+use Rattle.replica_model.specs.Path.{Path, Link}
 use Rattle.replica_model.specs.Keyed.{value_at, put}
 use Rattle.replica_model.specs.Replica.{Replica}
 use Rattle.replica_model.specs.Message.{Message}
@@ -19,10 +19,10 @@ use Rattle.group_model.specs.Enclave.{Enclave, started, Begin, Peer, calls, call
 use Rattle.group_model.specs.Group.{Sent, Answered, sent_by, answered_by}
 use Rattle.group_model.specs.Run.{Enclaves, World, enclaves}
 use Rattle.trace_model.specs.Trace.{Playing, settled}
-use Rattle.drill_laws.proofs.Setting.{five, follower, Each, Who, each, id_of, of, set, four_of, whole, offer, acceptance, at}
+use Rattle.drill_laws.proofs.Setting.{five, follower, Who, each, id_of, of, four_of, whole, offer, acceptance, at}
 use Rattle.drill_laws.proofs.Follows.{Did, hears_entry, hears_more}
-use Rattle.drill_laws.proofs.Leads.{IsPlain, enough, outcomes, leads, hears}
-use Rattle.drill_laws.proofs.Asking.{last_own}
+use Rattle.drill_laws.proofs.Leads.{IsPlain, outcomes, Round, Led, taken, commits_by, rises, rose, leads, hears}
+use Rattle.drill_laws.proofs.Asking.{round_of}
 use Rattle.drill_laws.proofs.Worlds.{Goes, At, Room, restated}
 use Rattle.drill_laws.proofs.Events.{delivery_goes}
 use Rattle.drill_laws.proofs.Rounds.{Has, Note, Entry, Raised, Taken, Course, raised_to_all, follows_on, raised_has, goes_by, goes, fits, all_fit, after_steps}
@@ -31,14 +31,11 @@ module _ (link : Link) (known : ℕ) (p : Path) (e : LogEntry) (own : e.term ≡
   abbrev pub q : Path
   q = p ++ e ∷ []
 
-  pub long : length q ≡ length p + 1
-  long = length-append p (e ∷ [])
-
-  pub own_term : term_at q (length q) ≡ 1
-  own_term = last_own p e ∙ own
+  abbrev round : Round
+  round = round_of p e own no_members o
 
   abbrev A : Bool → ℕ
-  A b = at q (length p) long b
+  A b = at q (length p) b
 
   abbrev pub enclave_at : ℕ → Replica → Enclave
   enclave_at v s = record (started (Begin v 1 MOST_ROWS five)) { replica = s }
@@ -46,12 +43,9 @@ module _ (link : Link) (known : ℕ) (p : Path) (e : LogEntry) (own : e.term ≡
   abbrev follows : ℕ → Has → Replica
   follows v h = follower v (cond h.entry 1 known) (cond h.entry q p) (A h.promised) (A h.committed)
 
-  abbrev led : Course → Replica
-  led c = leads link q (length p) long no_members own_term o c.promised c.committed c.marks c.promises
-
   abbrev pub runs : Course → List (ℕ × Enclave)
   runs c =
-      (1, enclave_at 1 (led c))
+      (1, enclave_at 1 (leads link round c.leader))
       ∷ (2, enclave_at 2 (follows 2 c.followers.two))
       ∷ (3, enclave_at 3 (follows 3 c.followers.three))
       ∷ (4, enclave_at 4 (follows 4 c.followers.four))
@@ -62,8 +56,8 @@ module _ (link : Link) (known : ℕ) (p : Path) (e : LogEntry) (own : e.term ≡
   follower_called : (v : Who) (h : Has) (m : Message) → called link (enclave_at (id_of v) (follows (id_of v) h)) (Peer 1 (id_of v) m) ≡ calls (enclave_at (id_of v) (follows (id_of v) h)) (step_of link (follows (id_of v) h) (step.Peer 1 m))
   follower_called v h m = each (λ w. called link (enclave_at (id_of w) (follows (id_of w) h)) (Peer 1 (id_of w) m) ≡ calls (enclave_at (id_of w) (follows (id_of w) h)) (step_of link (follows (id_of w) h) (step.Peer 1 m))) refl refl refl refl v
 
-  leader_called : (v : Who) (c : Course) (m : Message) → called link (enclave_at 1 (led c)) (Peer (id_of v) 1 m) ≡ calls (enclave_at 1 (led c)) (step_of link (led c) (step.Peer (id_of v) m))
-  leader_called v c m = each (λ w. called link (enclave_at 1 (led c)) (Peer (id_of w) 1 m) ≡ calls (enclave_at 1 (led c)) (step_of link (led c) (step.Peer (id_of w) m))) refl refl refl refl v
+  leader_called : (v : Who) (led : Led) (m : Message) → called link (enclave_at 1 (leads link round led)) (Peer (id_of v) 1 m) ≡ calls (enclave_at 1 (leads link round led)) (step_of link (leads link round led) (step.Peer (id_of v) m))
+  leader_called v led m = each (λ w. called link (enclave_at 1 (leads link round led)) (Peer (id_of w) 1 m) ≡ calls (enclave_at 1 (leads link round led)) (step_of link (leads link round led) (step.Peer (id_of w) m))) refl refl refl refl v
 
   abbrev pub mail_of : Note → Sent Message
   mail_of (Entry v) = record { from = 1; to = id_of v; message = offer (whole link p) (e ∷ []) (length p) (length p) }
@@ -79,7 +73,7 @@ module _ (link : Link) (known : ℕ) (p : Path) (e : LogEntry) (own : e.term ≡
     answered b = A0 ++ cond b news []
 
     abbrev StandsWith : World → Course → List Note → Type 0
-    StandsWith w c notes = At w (map mail_of notes) (runs c) (E0 + c.steps) (M0 + c.sent) (answered c.committed) cores
+    StandsWith w c notes = At w (map mail_of notes) (runs c) (E0 + c.steps) (M0 + c.sent) (answered c.leader.committed) cores
 
     abbrev pub Stands : World → Course → Type 0
     Stands w c = StandsWith w c c.queue
@@ -116,16 +110,16 @@ module _ (link : Link) (known : ℕ) (p : Path) (e : LogEntry) (own : e.term ≡
       -- a follower hears it
       module _ (v : Who) (rest : List Note) (h : Has) (m : Message)
           (d : Did (step_of link (follows (id_of v) (of v c.followers)) (step.Peer 1 m)) (follows (id_of v) h) ((1, acceptance (whole link q) (A h.promised)) ∷ []) []) where
-        follower_steps : At pl.group (record { from = 1; to = id_of v; message = m } ∷ map mail_of rest) (runs c) (E0 + c.steps) (M0 + c.sent) (answered c.committed) cores
+        follower_steps : At pl.group (record { from = 1; to = id_of v; message = m } ∷ map mail_of rest) (runs c) (E0 + c.steps) (M0 + c.sent) (answered c.leader.committed) cores
             → ((t : Playing Message Enclaves) → Stands t.group (follows_on c v rest h) → Goes (settled (enclaves link) n t) P) → Goes (settled (enclaves link) (suc n) pl) P
         follower_steps st next =
             delivery_goes link pl P st (omega (arith, few, steps)) (each (λ w. is_in five (id_of w) ≡ true) refl refl refl refl v)
             (enclave_at (id_of v) (follows (id_of v) (of v c.followers)))
             (each (λ w. value_at (runs c) (id_of w) ≡ Some (enclave_at (id_of w) (follows (id_of w) (of w c.followers)))) refl refl refl refl v) tt d (follower_called v (of v c.followers) m)
-            (omega (arith, room.0, sent), few_same _ c.committed (append-nil (answered c.committed)), room.2) n
+            (omega (arith, room.0, sent), few_same _ c.leader.committed (append-nil (answered c.leader.committed)), room.2) n
             (λ t a. next t (restated a (sym (map-append mail_of rest (Taken v h.promised ∷ [])))
             (each (λ w. put (runs c) (id_of w) (enclave_at (id_of w) (follows (id_of w) h)) ≡ runs (follows_on c w rest h)) refl refl refl refl v)
-            (omega arith) (omega arith) (append-nil (answered c.committed))))
+            (omega arith) (omega arith) (append-nil (answered c.leader.committed))))
 
       entry_steps : (v : Who) (rest : List Note) → fits c (Entry v ∷ rest) ≡ true → Steps (Entry v ∷ rest)
       entry_steps v rest fit =
@@ -143,23 +137,17 @@ module _ (link : Link) (known : ℕ) (p : Path) (e : LogEntry) (own : e.term ≡
           let now : Has = raised_has h x y in
           follower_steps v rest now m
           (subst (λ (b : Bool). Did (step_of link (follows (id_of v) (record h { entry = b })) (step.Peer 1 m)) (follows (id_of v) now) ((1, acceptance (whole link q) (A now.promised)) ∷ []) [])
-          (sym fit) (hears_more link (id_of v) 1 q (length p) long h.promised h.committed x y))
+          (sym fit) (hears_more link (id_of v) 1 q (length p) round.long h.promised h.committed x y))
 
       -- the leader hears it
       taken_steps : (v : Who) (x : Bool) (rest : List Note) → Steps (Taken v x ∷ rest)
       taken_steps v x rest st next =
-          let m : Each Bool = set v true c.marks in
-          let r : Each Bool = set v (of v c.promises || x) c.promises in
-          let pr : Bool = c.promised || enough m in
-          let k : Bool = c.committed || (pr && enough r) in
-          let cm : Bool = c.committed || k in
-          let rose : Bool = (not c.promised && pr) || (not c.committed && cm) in
-          delivery_goes link pl P st (omega (arith, few, steps)) refl
-          (enclave_at 1 (led c)) refl tt
-          (hears link q (length p) long no_members own_term o c.promised c.committed c.marks c.promises v x) (leader_called v c (acceptance (whole link q) (A x)))
-          (omega (arith, room.0, sent, raised_count rose pr cm, few_raised rose), few_same _ cm (answers_on c.committed k), room.2) n
-          (λ t a. next t (restated a ((λ i. map mail_of rest ++ raised_mail rose pr cm i) ∙ sym (map-append mail_of rest (cond rose (raised_to_all pr cm) []))) refl
-          (omega arith) (omega (arith, raised_count rose pr cm)) (answers_on c.committed k)))
+          let led : Led = taken v x c.leader in
+          let to : Led = rises led in
+          delivery_goes link pl P st (omega (arith, few, steps)) refl (enclave_at 1 (leads link round c.leader)) refl tt (hears link round c.leader v x) (leader_called v c.leader (acceptance (whole link q) (A x)))
+          (omega (arith, room.0, sent, raised_count (rose led) to.promised to.committed, few_raised (rose led)), few_same _ to.committed (answers_on led.committed (commits_by led)), room.2) n
+          (λ t a. next t (restated a ((λ i. map mail_of rest ++ raised_mail (rose led) to.promised to.committed i) ∙ sym (map-append mail_of rest (cond (rose led) (raised_to_all to.promised to.committed) []))) refl
+          (omega arith) (omega (arith, raised_count (rose led) to.promised to.committed)) (answers_on led.committed (commits_by led))))
 
       step_goes : (notes : List Note) → fits c notes ≡ true → Steps notes
       step_goes [] fit = absurd (let never : false ≡ true = fit in cc)

@@ -15,13 +15,13 @@ use Rattle.group_model.specs.Enclave.{Tick}
 use Rattle.group_model.specs.Group.{Answered}
 use Rattle.group_model.specs.Run.{Enclaves, enclaves, empty_world}
 use Rattle.trace_model.specs.Trace.{Playing, playing, expanded, settled}
-use Rattle.drill_laws.proofs.Setting.{five, conf_of_five, all}
-use Rattle.drill_laws.proofs.Leads.{IsPlain, leads}
-use Rattle.drill_laws.proofs.Asking.{ticks}
+use Rattle.drill_laws.proofs.Setting.{five, conf_of_five}
+use Rattle.drill_laws.proofs.Leads.{IsPlain, led_all, leads}
+use Rattle.drill_laws.proofs.Asking.{round_of, ticks}
 use Rattle.drill_laws.proofs.Worlds.{Goes, Room, restated}
 use Rattle.drill_laws.proofs.Events.{call_goes}
 use Rattle.drill_laws.proofs.Rounds.{begins, ticked, settles, entry_fits, entry_ends, tick_fits, tick_ends}
-use Rattle.drill_laws.proofs.Simulated.{simulated, Stands, long, own_term}
+use Rattle.drill_laws.proofs.Simulated.{simulated, Stands}
 use Rattle.drill_laws.proofs.Plays.{Plays, goes_last, settled_on}
 use Rattle.drill_laws.proofs.Exchanges.{enclave_of, Calm}
 
@@ -101,8 +101,8 @@ module _ (link : Link) (p : Path) (e : LogEntry) (own : e.term ≡ 1) (no_member
   tick_plays = (
     tt,
     call_goes link pl (λ u. Plays link u (event.Settle 8 ∷ rest) Q) calm_at (omega (arith, few_events)) (event.Tick 1) refl 1 refl Tick refl
-        (enclave_of 1 (leads link q (length p) (long link 1 p e own no_members None) no_members (own_term link 1 p e own no_members None) None true true (all true) (all true))) refl tt
-        (ticks link q (length p) (long link 1 p e own no_members None) no_members (own_term link 1 p e own no_members None) None) refl
+        (enclave_of 1 (leads link (round_of p e own no_members None) (led_all true))) refl tt
+        (ticks link (round_of p e own no_members None)) refl
         (omega (arith, few_messages), subst (λ (xs : List Answered). length xs ≤ 1000000) (sym (append-nil answers)) few_answers, few_cores)
         (λ t at. (
           tt,
