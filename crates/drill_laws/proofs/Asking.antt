@@ -28,7 +28,7 @@ use Rattle.replica_model.specs.Send.{entries_from, told, ended}
 use Rattle.replica_model.specs.Step.{step, with_end}
 use Rattle.drill_laws.proofs.Setting.{all, progress, leading, leader, four_of, whole, offer}
 use Rattle.drill_laws.proofs.Follows.{Did, did}
-use Rattle.drill_laws.proofs.Leads.{IsPlain, plain_more, peers_are, ends_sent, leads, done, raise_is, raised_done, ends_sending, nothing_left, after_all, whole_is}
+use Rattle.drill_laws.proofs.Leads.{IsPlain, plain_more, peers_are, ends_sent, Round, led_all, leads, done, raise_is, ends_sending, nothing_left, after_all, whole_is}
 
 -- the last entry
 at_end : (p : Path) (e : LogEntry) → slice_get (p ++ e ∷ []) (length p) ≡ Some e
@@ -40,6 +40,10 @@ last_own p e = (λ i. term_at (p ++ e ∷ []) (long i)) ∙ (λ i. unwrap_or (op
   where
     long : length (p ++ e ∷ []) ≡ suc (length p)
     long = length-append p (e ∷ []) ∙ omega arith
+
+-- the round of an entry of the leader's own term
+abbrev pub round_of : (p : Path) (e : LogEntry) → e.term ≡ 1 → IsPlain (p ++ e ∷ []) → Option ClientAsk → Round
+round_of p e own plain o = record { path = p ++ e ∷ []; n = length p; long = length-append p (e ∷ []); plain = plain; own = last_own p e ∙ own; ask = o }
 
 -- ---- a request, where all is settled
 module _ (link : Link) (p : Path) (no_members : IsPlain p) (client : ClientId) (number : ℕ) (request : Request) where
@@ -55,11 +59,11 @@ module _ (link : Link) (p : Path) (no_members : IsPlain p) (client : ClientId) (
   pub ask_plain : IsPlain asked_path
   ask_plain = plain_more p ask refl refl no_members
 
-  pub ask_own : term_at asked_path (length asked_path) ≡ 1
-  ask_own = last_own p ask
-
   abbrev pub asked_for : Option ClientAsk
   asked_for = Some (record { client = client; number = number; request = request })
+
+  abbrev pub ask_round : Round
+  ask_round = round_of p ask refl ask_plain asked_for
 
   -- what the leader of a path on which all agree knows
   abbrev pub calmly : Leading
@@ -88,10 +92,10 @@ module _ (link : Link) (p : Path) (no_members : IsPlain p) (client : ClientId) (
   next_is = (λ i. (length p + 1) + length (entries_is i)) ∙ (omega (arith, ask_long))
 
   pub asks : (bytes : List ℕ) → request_of bytes ≡ Ok request → length p < TOP
-      → Did (step link calm (Client client number bytes)) (leads link asked_path (length p) ask_long ask_plain ask_own asked_for false false (all false) (all false)) (four_of (offer (whole link p) (ask ∷ []) (length p) (length p))) []
+      → Did (step link calm (Client client number bytes)) (leads link ask_round (led_all false)) (four_of (offer (whole link p) (ask ∷ []) (length p) (length p))) []
   asks bytes reads low =
       did _ _ _ _ _ (λ i. told (with_end link (pushes i)))
-      (ends_sending link asked_path (length p) ask_long ask_plain ask_own asked_for (length p + 1) false false (all false) (all false) (length asked_path + 1) (ask ∷ []) (whole link p) entries_is next_is point_is (omega (arith, ask_long)))
+      (ends_sending link ask_round (led_all false) (length p + 1) (ask ∷ []) (whole link p) entries_is next_is point_is (omega (arith, ask_long)))
     where
       free : (length p == TOP) ≡ false
       free = ne_eqb (length p) TOP (λ e. omega (arith, e, low))
@@ -99,18 +103,21 @@ module _ (link : Link) (p : Path) (no_members : IsPlain p) (client : ClientId) (
       idle : nat_le MAX_OPEN (length p - length p) ≡ false
       idle = lt-leb MAX_OPEN (length p - length p) (omega arith)
 
-      pushes : client_request calm client number bytes ≡ done link asked_path (length p) ask_long ask_plain ask_own asked_for (length p + 1) false false (all false) (all false) (2 ∷ 3 ∷ 4 ∷ 5 ∷ [])
+      pushes : client_request calm client number bytes ≡ done link ask_round (led_all false) (length p + 1) (2 ∷ 3 ∷ 4 ∷ 5 ∷ [])
       pushes =
           (λ i. on_request calm client number (reads i))
           ∙ (λ i. cond (idle i || free i) (answers calm client number (Busy (open_entries calm))) (raise_and_send (still (asked calm client number request)) calmly))
           ∙ (λ i. raise_and_send (still (pushed_at (sym ask_long i))) calmly)
-          ∙ (λ i. to_every_peer ((raise_is link asked_path (length p) ask_long ask_plain ask_own asked_for (length p + 1) false false (all false) (all false) ∙ raised_done link asked_path (length p) ask_long ask_plain ask_own asked_for (length p + 1) false false (all false) (all false)) i) calmly)
-          ∙ (λ i. done link asked_path (length p) ask_long ask_plain ask_own asked_for (length p + 1) false false (all false) (all false) (peers_are asked_path ask_plain (length p - KEPT_BELOW) (length p) (length p) (record { index = length asked_path; client = client; number = number; request = request } ∷ []) (all (length p + 1)) (all (length p)) (all (length p)) i))
+          ∙ (λ i. to_every_peer (raise_is link ask_round (led_all false) (length p + 1) i) calmly)
+          ∙ (λ i. done link ask_round (led_all false) (length p + 1) (peers_are asked_path ask_plain (length p - KEPT_BELOW) (length p) (length p) (record { index = length asked_path; client = client; number = number; request = request } ∷ []) (all (length p + 1)) (all (length p)) (all (length p)) i))
 
 -- ---- a tick, where all is settled
-module _ (link : Link) (q : Path) (n : ℕ) (long : length q ≡ n + 1) (no_members : IsPlain q) (own : term_at q (length q) ≡ 1) (o : Option ClientAsk) where
+module _ (link : Link) (round : Round) where
+  abbrev q : Path
+  q = round.path
+
   abbrev s : Replica
-  s = leads link q n long no_members own o true true (all true) (all true)
+  s = leads link round (led_all true)
 
   abbrev known : Progress
   known = progress (length q + 1) (length q) (length q)
@@ -122,13 +129,13 @@ module _ (link : Link) (q : Path) (n : ℕ) (long : length q ≡ n + 1) (no_memb
   l = each_known known
 
   peers_here : peers s l ≡ 2 ∷ 3 ∷ 4 ∷ 5 ∷ []
-  peers_here = peers_are q no_members (length q - KEPT_BELOW) (length q) (length q) [] (all (length q + 1)) (all (length q)) (all (length q))
+  peers_here = peers_are q round.plain (length q - KEPT_BELOW) (length q) (length q) [] (all (length q + 1)) (all (length q)) (all (length q))
 
   again : sent_again s known ≡ known
   again = (λ i. cond (some i) known (record known { next = max (length q) (length q - KEPT_BELOW) + 1 })) ∙ (λ i. progress (more i) (length q) (length q))
     where
       some : (length q == 0) ≡ false
-      some = ne_eqb (length q) 0 (λ e. omega (arith, e, long))
+      some = ne_eqb (length q) 0 (λ e. omega (arith, e, round.long))
 
       more : max (length q) (length q - KEPT_BELOW) + 1 ≡ length q + 1
       more = omega arith
@@ -152,4 +159,4 @@ module _ (link : Link) (q : Path) (n : ℕ) (long : length q ≡ n + 1) (no_memb
       base_is = omega arith
 
       sending : ended link (ticking l (2 ∷ 3 ∷ 4 ∷ 5 ∷ []) []) None ≡ record (still (leader q (max (length q - KEPT_BELOW) (length q - KEPT_BELOW)) (length q) (length q) [] l)) { sent = four_of (offer (whole link q) [] (length q) (length q)) }
-      sending = ends_sent link q (length q - KEPT_BELOW) (length q) (length q) [] (all (length q)) (all (length q)) empty_batch [] (length q + 1) (length q + 1) [] (whole link q) (nothing_left link q n long no_members own o) (after_all link q n long no_members own o) (whole_is link q n long no_members own o) (lt-ltb (length q - KEPT_BELOW) (length q + 1) (omega arith)) no_members
+      sending = ends_sent link q (length q - KEPT_BELOW) (length q) (length q) [] (all (length q)) (all (length q)) empty_batch [] (length q + 1) (length q + 1) [] (whole link q) (nothing_left link round) (after_all link round) (whole_is link round) (lt-ltb (length q - KEPT_BELOW) (length q + 1) (omega arith)) round.plain

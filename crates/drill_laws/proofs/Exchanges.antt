@@ -16,11 +16,8 @@ use Rattle.client_msgs.specs.Reading.{request_of}
 use Rattle.replica_model.specs.declared.TheConstants.{KEPT_BELOW}
 use Rattle.replica_model.specs.Path.{Path, Link}
 use Rattle.replica_model.specs.Folds.{reply_of}
-use Rattle.replica_model.specs.Keyed.{put}
 use Rattle.replica_model.specs.Replica.{Replica}
 use Rattle.replica_model.specs.Message.{Message}
-use Rattle.replica_model.specs.Call as step
-use Rattle.replica_model.specs.Step.{step as step_of}
 use Rattle.schedule_model.specs.Client.{Core, said, heard}
 use Rattle.group_model.specs.Enclave.{Enclave, Client, started, Begin}
 use Rattle.group_model.specs.Group.{Answered, answered_by, numbered, is_client, core_of, put_core}
@@ -28,14 +25,14 @@ use Rattle.group_model.specs.Happens as happening
 use Rattle.group_model.specs.Run.{Enclaves, World, enclaves}
 use Rattle.trace_model.specs.Trace.{Playing}
 use Rattle.drill_laws.proofs.Numbers.{same_bytes}
-use Rattle.drill_laws.proofs.Setting.{five, all, leading, leader, follower, four_of, whole, offer}
-use Rattle.drill_laws.proofs.Leads.{IsPlain, leads}
-use Rattle.drill_laws.proofs.Asking.{ask, ask_long, ask_plain, ask_own, asked_for, calm, asks}
+use Rattle.drill_laws.proofs.Setting.{five, all, leading, leader, follower}
+use Rattle.drill_laws.proofs.Leads.{IsPlain}
+use Rattle.drill_laws.proofs.Asking.{ask, ask_plain, asked_for, calm, asks}
 use Rattle.drill_laws.proofs.Queue.{at_first}
-use Rattle.drill_laws.proofs.Worlds.{At, Room, noted, room_before}
+use Rattle.drill_laws.proofs.Worlds.{At, Room, restated, noted}
 use Rattle.drill_laws.proofs.Events.{call_goes, hear_goes}
-use Rattle.drill_laws.proofs.Rounds.{begins, entry_fits, entry_ends}
-use Rattle.drill_laws.proofs.Simulated.{restated, simulated, Stands}
+use Rattle.drill_laws.proofs.Rounds.{begins, settles, entry_fits, entry_ends}
+use Rattle.drill_laws.proofs.Simulated.{simulated}
 use Rattle.drill_laws.proofs.Plays.{Plays}
 
 pub put_length : (cores : List (ClientId × Core)) (c : ClientId) (core : Core) → length (put_core cores c core) ≤ length cores + 1
@@ -67,10 +64,10 @@ Calm w p events messages answers cores = At w [] (agreed p) events messages answ
 abbrev pub outcome : ClientId → ℕ → ℕ → Reply → Answered
 outcome c number index reply = record { replica = 1; client = c; number = number; answer = Outcome index reply }
 
-module _ (link : Link) (p : Path) (no_members : IsPlain p) (events messages : ℕ) (answers : List Answered) (cores : List (ClientId × Core))
-    (few_events : events + 40 ≤ 1000000) (few_messages : messages + 60 ≤ 200000) (few_answers : length answers + 1 ≤ 1000000) (few_cores : length cores + 1 ≤ 20000)
-    (pl : Playing Message Enclaves) (rest : List Event) (Q : Playing Message Enclaves → Type 0) where
-  module _ (calm_at : Calm pl.group p events messages answers cores) (c : ClientId) (core after : Core) (number : ℕ) (request : Request) (reply : Reply) (report : Option Report) (a : ℕ)
+module _ (link : Link) (p : Path) (no_members : IsPlain p) (pl : Playing Message Enclaves) (rest : List Event) (Q : Playing Message Enclaves → Type 0)
+    {events messages : ℕ} {answers : List Answered} {cores : List (ClientId × Core)} (calm_at : Calm pl.group p events messages answers cores)
+    (few_events : events + 40 ≤ 1000000) (few_messages : messages + 60 ≤ 200000) (few_answers : length answers + 1 ≤ 1000000) (few_cores : length cores + 1 ≤ 20000) where
+  module _ (c : ClientId) (core after : Core) (number : ℕ) (request : Request) (reply : Reply) (report : Option Report) (a : ℕ)
       (core_is : core_of cores c ≡ Some core) (said_is : said core ≡ Some (number, canonical_request request)) (reads : request_of (canonical_request request) ≡ Ok request)
       (low : length p < TOP) where
     abbrev q : Path
@@ -87,10 +84,10 @@ module _ (link : Link) (p : Path) (no_members : IsPlain p) (events messages : �
           newest ∙ omega (arith, length-append answers (x ∷ []), ap (λ (xs : List Answered). length xs) at.answers_are),
           subst (λ (y : Option Answered). IsSomeAnd y (λ (z : Answered). z.client ≡ c)) (sym ((λ i. numbered (at.answers_are i) (more i)) ∙ at_first answers x [])) refl,
         ),
-        hear_goes link t (λ u. Plays link u rest Q) (agreed q) (events + 25) (messages + 24) (answers ++ x ∷ []) cores (omega (arith, few_events)) [] at c a x core after report
+        hear_goes link t (λ u. Plays link u rest Q) at (omega (arith, few_events)) c a x core after report
             ((λ i. numbered (answers ++ x ∷ []) (more i)) ∙ at_first answers x []) (same_bytes c.0) core_is heard_is
             (omega (arith, few_messages), omega (arith, few_answers, length-append answers (x ∷ [])), omega (arith, few_cores, put_length cores c after))
-            (λ u at'. next u (restated u.group [] [] (agreed q) _ (events + 26) (messages + 24) (messages + 24) (answers ++ x ∷ []) (answers ++ x ∷ []) (put_core cores c after) refl (omega arith) refl refl at')),
+            (λ u at'. next u (restated at' refl refl (omega arith) refl refl)),
       )
         where
           more : a ≡ suc (length answers)
@@ -105,29 +102,19 @@ module _ (link : Link) (p : Path) (no_members : IsPlain p) (events messages : �
       few_steps : events + 1 + 32 ≤ 1000000
       few_steps = omega (arith, few_events)
 
-      settling : (t : Playing Message Enclaves) → Stands link 1 p (ask link p no_members c number request) refl (ask_plain link p no_members c number request) (asked_for link p no_members c number request) (events + 1) (messages + 4) answers cores few_steps few_news t.group begins → Plays link t (event.Settle 24 ∷ event.Hear c a ∷ rest) Q
-      settling t at = (
-        tt,
-        simulated link 1 p (ask link p no_members c number request) refl (ask_plain link p no_members c number request) (asked_for link p no_members c number request) (events + 1) (messages + 4) answers cores few_steps few_news
-            (λ u. Plays link u (event.Hear c a ∷ rest) Q) 24 begins entry_fits t at
-            (λ u at'. hears u (restated u.group [] [] (agreed q) (events + 1 + 24) (events + 25) (messages + 4 + 20) (messages + 24) _ (answers ++ x ∷ []) cores refl (omega arith) (omega arith) (λ i. answers ++ news_is i)
-            (subst (λ k. Stands link 1 p (ask link p no_members c number request) refl (ask_plain link p no_members c number request) (asked_for link p no_members c number request) (events + 1) (messages + 4) answers cores few_steps few_news u.group k) entry_ends at'))),
-      )
-
       pub exchange_plays : Plays link pl (event.Say c 1 ∷ event.Settle 24 ∷ event.Hear c a ∷ rest) Q
       exchange_plays = (
         tt,
-        call_goes link pl (λ u. Plays link u (event.Settle 24 ∷ event.Hear c a ∷ rest) Q) (agreed p) events messages answers cores (omega (arith, few_events))
-            (event.Say c 1) [] calm_at (room_before link pl.group (event.Say c 1) refl (omega (arith, few_events, calm_at.past_is))) 1 refl
-            (Client c number (canonical_request request))
-            ((λ i. happening.says (enclaves link) c 1 (happening.said_by (enclaves link) (core_of (calm_at.cores_are i) c)) (noted link pl (event.Say c 1) [] (agreed p) events messages answers cores calm_at))
-            ∙ (λ i. happening.says (enclaves link) c 1 (happening.said_by (enclaves link) (core_is i)) (noted link pl (event.Say c 1) [] (agreed p) events messages answers cores calm_at))
-            ∙ (λ i. happening.says (enclaves link) c 1 (said_is i) (noted link pl (event.Say c 1) [] (agreed p) events messages answers cores calm_at)))
-            (enclave_of 1 (calm link p no_members c number request)) refl tt
-            (step_of link (calm link p no_members c number request) (step.Client c number (canonical_request request))) refl
-            (leads link q (length p) (ask_long link p no_members c number request) (ask_plain link p no_members c number request) (ask_own link p no_members c number request) (asked_for link p no_members c number request) false false (all false) (all false))
-            (four_of (offer (whole link p) (ask link p no_members c number request ∷ []) (length p) (length p))) []
-            (asks link p no_members c number request (canonical_request request) reads low)
+        call_goes link pl (λ u. Plays link u (event.Settle 24 ∷ event.Hear c a ∷ rest) Q) calm_at (omega (arith, few_events)) (event.Say c 1) refl 1 refl (Client c number (canonical_request request))
+            ((λ i. happening.says (enclaves link) c 1 (happening.said_by (enclaves link) (core_of (calm_at.cores_are i) c)) (noted link pl (event.Say c 1)))
+            ∙ (λ i. happening.says (enclaves link) c 1 (happening.said_by (enclaves link) (core_is i)) (noted link pl (event.Say c 1)))
+            ∙ (λ i. happening.says (enclaves link) c 1 (said_is i) (noted link pl (event.Say c 1))))
+            (enclave_of 1 (calm link p no_members c number request)) refl tt (asks link p no_members c number request (canonical_request request) reads low) refl
             (omega (arith, few_messages), omega (arith, few_answers, ap (λ (xs : List Answered). length xs) (append-nil answers)), omega (arith, few_cores))
-            (λ t at. settling t (restated t.group _ _ (put (agreed p) 1 (enclave_of 1 (leads link q (length p) (ask_long link p no_members c number request) (ask_plain link p no_members c number request) (ask_own link p no_members c number request) (asked_for link p no_members c number request) false false (all false) (all false)))) (events + 1) (events + 1 + 0) (messages + 4) (messages + 4 + 0) (answers ++ []) (answers ++ []) cores refl (omega arith) (omega arith) refl at)),
+            (λ t at. (
+              tt,
+              simulated link 1 p (ask link p no_members c number request) refl (ask_plain link p no_members c number request) (asked_for link p no_members c number request) (events + 1) (messages + 4) answers cores few_steps few_news
+                  (λ u. Plays link u (event.Hear c a ∷ rest) Q) 24 begins (settles 24 20) entry_fits entry_ends t (restated at refl refl (omega arith) (omega arith) refl)
+                  (λ u at'. hears u (restated at' refl refl (omega arith) (omega arith) (λ i. answers ++ news_is i))),
+            )),
       )

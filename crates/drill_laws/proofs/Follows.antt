@@ -122,11 +122,11 @@ module _ (link : Link) (me known : ℕ) where
 
   -- what is promised and committed, where it has the whole path
   pub hears_more : (q : Path) (n : ℕ) (long : length q ≡ n + 1) (pr cm x y : Bool)
-      → Did (step link (follower me known q (at q n long pr) (at q n long cm)) (Peer 1 (offer (whole link q) [] (at q n long x) (at q n long y))))
-      (follower me 1 q (at q n long (pr || x)) (at q n long (cm || (y && x))))
-      ((1, acceptance (whole link q) (at q n long (pr || x))) ∷ []) []
+      → Did (step link (follower me known q (at q n pr) (at q n cm)) (Peer 1 (offer (whole link q) [] (at q n x) (at q n y))))
+      (follower me 1 q (at q n (pr || x)) (at q n (cm || (y && x))))
+      ((1, acceptance (whole link q) (at q n (pr || x))) ∷ []) []
   hears_more q n long pr cm x y =
-      grafts q [] q (append-nil q) (at q n long pr) (at q n long cm) (at q n long x) (at q n long y) (at q n long (pr || x)) (at q n long (cm || (y && x))) (below_whole q n long cm)
-      ((λ i. max (at q n long pr) (min_whole q n long x i)) ∙ max_at q n long pr x)
-      ((λ i. max (at q n long cm) (min (at q n long y) (min_whole q n long x i))) ∙ (λ i. max (at q n long cm) (min_at q n long y x i)) ∙ max_at q n long cm (y && x))
+      grafts q [] q (append-nil q) (at q n pr) (at q n cm) (at q n x) (at q n y) (at q n (pr || x)) (at q n (cm || (y && x))) (below_whole q n long cm)
+      ((λ i. max (at q n pr) (min_whole q n long x i)) ∙ max_at q n long pr x)
+      ((λ i. max (at q n cm) (min (at q n y) (min_whole q n long x i))) ∙ (λ i. max (at q n cm) (min_at q n long y x i)) ∙ max_at q n long cm (y && x))
       (min_whole q n long (pr || x))

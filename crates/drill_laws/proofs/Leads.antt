@@ -26,11 +26,11 @@ use Rattle.replica_model.specs.Call.{Call, Peer, moment, still}
 use Rattle.replica_model.specs.Raise.{commit_to, outcome_of, accepted_mark, promised_mark, may_promise, may_commit, promise_index, commit_index, raise, to_every_peer}
 use Rattle.replica_model.specs.Heard.{to_peer, accepted_upto, after_raise, accepted_by, accepted_heard}
 use Rattle.replica_model.specs.Graft.{is_hash}
-use Rattle.replica_model.specs.Send.{entries_from, send_append, send_appends, appended_to, stepped_down, base_moved, concluded, ended, told}
+use Rattle.replica_model.specs.Send.{entries_from, sent_on, send_append, send_appends, appended_to, stepped_down, base_moved, concluded, ended, told}
 use Rattle.replica_model.specs.Step.{step, with_end}
 use Rattle.replica_model.proofs.Paths.{conf-push}
 use Rattle.drill_laws.proofs.Numbers.{hash_same}
-use Rattle.drill_laws.proofs.Setting.{conf_of_five, Each, all, progress, leading, leader, four_of, whole, offer, acceptance, at, le_at, lt_at, max_at, min_whole, below_whole}
+use Rattle.drill_laws.proofs.Setting.{conf_of_five, Each, all, Who, Two, Three, Four, Five, each, id_of, of, set, leading, leader, four_of, whole, offer, acceptance, at, le_at, lt_at, max_at, min_whole, below_whole}
 use Rattle.drill_laws.proofs.Follows.{Did, did}
 
 and_true : (b : Bool) → (b && true) ≡ b
@@ -79,32 +79,25 @@ module _ (link : Link) (path : Path) (base a c : ℕ) (ts : List Ticket) (m r : 
   abbrev msg : Message
   msg = offer pt es a c
 
-  sends_two : (sent : List (ℕ × Message)) (y1 y2 y3 : ℕ) → send_append link (C (record { two = x; three = y1; four = y2; five = y3 }) sent) (Leader (leading (record { two = x; three = y1; four = y2; five = y3 }) m r)) 2 ≡ C (record { two = x'; three = y1; four = y2; five = y3 }) (sent ++ (2, msg) ∷ [])
-  sends_two sent y1 y2 y3 =
-      (λ i. cond (low i) (appended_to link (C (record { two = x; three = y1; four = y2; five = y3 }) sent) (leading (record { two = x; three = y1; four = y2; five = y3 }) m r) 2) (C (record { two = x; three = y1; four = y2; five = y3 }) sent))
-      ∙ (λ i. C (record { two = next_is i; three = y1; four = y2; five = y3 }) (sent ++ (2, plain (Append 1 (point_is i) (entries_is i) a c)) ∷ []))
+  sends : (v : Who) (xs : Each ℕ) (sent : List (ℕ × Message)) → of v xs ≡ x → send_append link (C xs sent) (Leader (leading xs m r)) (id_of v) ≡ C (set v x' xs) (sent ++ (id_of v, msg) ∷ [])
+  sends v xs sent here =
+      (λ i. cond (nat_lt base (known_next i)) (appended_to link (C xs sent) (leading xs m r) (id_of v)) (C xs sent))
+      ∙ (λ i. cond (low i) (appended_to link (C xs sent) (leading xs m r) (id_of v)) (C xs sent))
+      ∙ (λ i. record (C xs (sent ++ (id_of v, plain (Append 1 (point link path (known_next i - 1)) (entries_from path (known_next i)) a c)) ∷ [])) { state = leader path base a c ts (known_on i) })
+      ∙ (λ i. C (set v (next_is i) xs) (sent ++ (id_of v, plain (Append 1 (point_is i) (entries_is i) a c)) ∷ []))
+    where
+      known_next : (progress_of (leading xs m r) (id_of v)).next ≡ x
+      known_next = each (λ w. (progress_of (leading xs m r) (id_of w)).next ≡ of w xs) refl refl refl refl v ∙ here
 
-  sends_three : (sent : List (ℕ × Message)) (y0 y2 y3 : ℕ) → send_append link (C (record { two = y0; three = x; four = y2; five = y3 }) sent) (Leader (leading (record { two = y0; three = x; four = y2; five = y3 }) m r)) 3 ≡ C (record { two = y0; three = x'; four = y2; five = y3 }) (sent ++ (3, msg) ∷ [])
-  sends_three sent y0 y2 y3 =
-      (λ i. cond (low i) (appended_to link (C (record { two = y0; three = x; four = y2; five = y3 }) sent) (leading (record { two = y0; three = x; four = y2; five = y3 }) m r) 3) (C (record { two = y0; three = x; four = y2; five = y3 }) sent))
-      ∙ (λ i. C (record { two = y0; three = next_is i; four = y2; five = y3 }) (sent ++ (3, plain (Append 1 (point_is i) (entries_is i) a c)) ∷ []))
-
-  sends_four : (sent : List (ℕ × Message)) (y0 y1 y3 : ℕ) → send_append link (C (record { two = y0; three = y1; four = x; five = y3 }) sent) (Leader (leading (record { two = y0; three = y1; four = x; five = y3 }) m r)) 4 ≡ C (record { two = y0; three = y1; four = x'; five = y3 }) (sent ++ (4, msg) ∷ [])
-  sends_four sent y0 y1 y3 =
-      (λ i. cond (low i) (appended_to link (C (record { two = y0; three = y1; four = x; five = y3 }) sent) (leading (record { two = y0; three = y1; four = x; five = y3 }) m r) 4) (C (record { two = y0; three = y1; four = x; five = y3 }) sent))
-      ∙ (λ i. C (record { two = y0; three = y1; four = next_is i; five = y3 }) (sent ++ (4, plain (Append 1 (point_is i) (entries_is i) a c)) ∷ []))
-
-  sends_five : (sent : List (ℕ × Message)) (y0 y1 y2 : ℕ) → send_append link (C (record { two = y0; three = y1; four = y2; five = x }) sent) (Leader (leading (record { two = y0; three = y1; four = y2; five = x }) m r)) 5 ≡ C (record { two = y0; three = y1; four = y2; five = x' }) (sent ++ (5, msg) ∷ [])
-  sends_five sent y0 y1 y2 =
-      (λ i. cond (low i) (appended_to link (C (record { two = y0; three = y1; four = y2; five = x }) sent) (leading (record { two = y0; three = y1; four = y2; five = x }) m r) 5) (C (record { two = y0; three = y1; four = y2; five = x }) sent))
-      ∙ (λ i. C (record { two = y0; three = y1; four = y2; five = next_is i }) (sent ++ (5, plain (Append 1 (point_is i) (entries_is i) a c)) ∷ []))
+      known_on : with_progress (leading xs m r) (id_of v) (sent_on path (progress_of (leading xs m r) (id_of v))) ≡ leading (set v (x + length (entries_from path x)) xs) m r
+      known_on = each (λ w. with_progress (leading xs m r) (id_of w) (sent_on path (progress_of (leading xs m r) (id_of w))) ≡ leading (set w (of w xs + length (entries_from path (of w xs))) xs) m r) refl refl refl refl v ∙ (λ i. leading (set v (here i + length (entries_from path (here i))) xs) m r)
 
   pub all_sent : send_appends link (C (all x) []) (2 ∷ 3 ∷ 4 ∷ 5 ∷ []) ≡ record (C (all x') (four_of msg)) { appends = [] }
   all_sent =
-      (λ i. send_appends link (sends_two [] x x x i) (3 ∷ 4 ∷ 5 ∷ []))
-      ∙ (λ i. send_appends link (sends_three ((2, msg) ∷ []) x' x x i) (4 ∷ 5 ∷ []))
-      ∙ (λ i. send_appends link (sends_four ((2, msg) ∷ (3, msg) ∷ []) x' x' x i) (5 ∷ []))
-      ∙ (λ i. send_appends link (sends_five ((2, msg) ∷ (3, msg) ∷ (4, msg) ∷ []) x' x' x' i) [])
+      (λ i. send_appends link (sends Two (all x) [] refl i) (3 ∷ 4 ∷ 5 ∷ []))
+      ∙ (λ i. send_appends link (sends Three (record (all x) { two = x' }) ((2, msg) ∷ []) refl i) (4 ∷ 5 ∷ []))
+      ∙ (λ i. send_appends link (sends Four (record (all x') { four = x; five = x }) ((2, msg) ∷ (3, msg) ∷ []) refl i) (5 ∷ []))
+      ∙ (λ i. send_appends link (sends Five (record (all x') { five = x }) ((2, msg) ∷ (3, msg) ∷ (4, msg) ∷ []) refl i) [])
 
   -- the end of such a call
   pub ends_sent : (no_members : IsPlain path) → ended link (C (all x) []) None ≡ record (C (all x') (four_of msg)) { state = leader path (max base (c - KEPT_BELOW)) a c ts (leading (all x') m r); appends = [] }
@@ -113,8 +106,8 @@ module _ (link : Link) (path : Path) (base a c : ℕ) (ts : List Ticket) (m r : 
       ∙ (λ i. record (C (all x') (four_of msg)) { state = base_moved (stays path no_members base a c ts (leading (all x') m r) i); appends = [] })
 
 -- ---- a round
-abbrev pub at_each : (q : Path) (n : ℕ) (long : length q ≡ n + 1) → Each Bool → Each ℕ
-at_each q n long b = record { two = at q n long b.two; three = at q n long b.three; four = at q n long b.four; five = at q n long b.five }
+abbrev pub at_each : Path → ℕ → Each Bool → Each ℕ
+at_each q n b = record { two = at q n b.two; three = at q n b.three; four = at q n b.four; five = at q n b.five }
 
 abbrev pub votes : Bool → Each Bool → ℕ → Bool
 votes own b v = cond (v == 1) own (cond (v == 2) b.two (cond (v == 3) b.three (cond (v == 4) b.four b.five)))
@@ -132,54 +125,84 @@ tickets q (Some a) = record { index = length q; client = a.client; number = a.nu
 abbrev pub outcomes : Path → Option ClientAsk → List (ClientId × ℕ × Answer)
 outcomes q o = filter_map (λ (t : Ticket). option_map (λ reply. (t.client, t.number, Outcome t.index reply)) (reply_of MOST_ROWS q t.index)) (tickets q o)
 
-module _ (link : Link) (q : Path) (n : ℕ) (long : length q ≡ n + 1) (no_members : IsPlain q) (own : term_at q (length q) ≡ 1) (o : Option ClientAsk) where
-  abbrev pub A : Bool → ℕ
-  A b = at q n long b
+-- the path with its newest entry, which is the leader's own, and who asked for it
+pub record Round : Type 0 where
+  pub path : Path
+  pub n : ℕ
+  pub long : length path ≡ n + 1
+  pub plain : IsPlain path
+  pub own : term_at path (length path) ≡ 1
+  pub ask : Option ClientAsk
+
+-- what the leader has come to: what it promised and committed, and which followers have the entry and promised it
+pub record Led : Type 0 where
+  pub promised : Bool
+  pub committed : Bool
+  pub marks : Each Bool
+  pub promises : Each Bool
+
+abbrev pub led_all : Bool → Led
+led_all b = record { promised = b; committed = b; marks = all b; promises = all b }
+
+-- a follower took the entry, and this is what it promised
+abbrev pub taken : Who → Bool → Led → Led
+taken v x led = record led { marks = set v true led.marks; promises = set v (of v led.promises || x) led.promises }
+
+-- what it promises and commits by what it knows
+abbrev pub promises_by : Led → Bool
+promises_by led = led.promised || enough led.marks
+
+abbrev pub commits_by : Led → Bool
+commits_by led = led.committed || (promises_by led && enough led.promises)
+
+abbrev pub rises : Led → Led
+rises led = record led { promised = promises_by led; committed = led.committed || commits_by led }
+
+abbrev pub rose : Led → Bool
+rose led = (not led.promised && (rises led).promised) || (not led.committed && (rises led).committed)
+
+module _ (link : Link) (round : Round) where
+  abbrev q : Path
+  q = round.path
+
+  abbrev n : ℕ
+  n = round.n
+
+  abbrev A : Bool → ℕ
+  A b = at q n b
 
   abbrev As : Each Bool → Each ℕ
-  As b = at_each q n long b
+  As b = at_each q n b
 
   abbrev T : Bool → List Ticket
-  T cm = cond cm [] (tickets q o)
+  T committed = cond committed [] (tickets q round.ask)
 
-  abbrev pub next : ℕ
+  abbrev next : ℕ
   next = length q + 1
 
-  abbrev pub known : Each Bool → Each Bool → Leading
-  known m r = leading (all next) (As m) (As r)
+  abbrev known : Led → Leading
+  known led = leading (all next) (As led.marks) (As led.promises)
 
-  -- what it holds, where its followers have this and promised that
-  abbrev pub leads : Bool → Bool → Each Bool → Each Bool → Replica
-  leads pr cm m r = leader q (A cm - KEPT_BELOW) (A pr) (A cm) (T cm) (known m r)
+  -- what it holds then
+  abbrev pub leads : Led → Replica
+  leads led = leader q (A led.committed - KEPT_BELOW) (A led.promised) (A led.committed) (T led.committed) (known led)
 
   counted : (mark : ℕ → ℕ) (b : Each Bool) → mark 1 ≡ length q → mark 2 ≡ A b.two → mark 3 ≡ A b.three → mark 4 ≡ A b.four → mark 5 ≡ A b.five → met conf_of_five (λ v. nat_le (length q) (mark v)) ≡ enough b
   counted mark b one two three four fifth =
-      λ i. nat_le 4 (0 + cond (w1 i) 1 0 + cond (w2 i) 1 0 + cond (w3 i) 1 0 + cond (w4 i) 1 0 + cond (w5 i) 1 0)
+      λ i. nat_le 4 (0 + cond (has 1 true one i) 1 0 + cond (has 2 b.two two i) 1 0 + cond (has 3 b.three three i) 1 0 + cond (has 4 b.four four i) 1 0 + cond (has 5 b.five fifth i) 1 0)
     where
-      w1 : nat_le (length q) (mark 1) ≡ true
-      w1 = (λ i. nat_le (length q) (one i)) ∙ le-leb (length q) (length q) (omega arith)
-
-      w2 : nat_le (length q) (mark 2) ≡ b.two
-      w2 = (λ i. nat_le (length q) (two i)) ∙ le_at q n long b.two
-
-      w3 : nat_le (length q) (mark 3) ≡ b.three
-      w3 = (λ i. nat_le (length q) (three i)) ∙ le_at q n long b.three
-
-      w4 : nat_le (length q) (mark 4) ≡ b.four
-      w4 = (λ i. nat_le (length q) (four i)) ∙ le_at q n long b.four
-
-      w5 : nat_le (length q) (mark 5) ≡ b.five
-      w5 = (λ i. nat_le (length q) (fifth i)) ∙ le_at q n long b.five
+      has : (v : ℕ) (c : Bool) → mark v ≡ A c → nat_le (length q) (mark v) ≡ c
+      has v c is = (λ i. nat_le (length q) (is i)) ∙ le_at q n round.long c
 
   enough_at : (mark : ℕ → ℕ) (c : ℕ) (b : Each Bool) → mark 1 ≡ length q → mark 2 ≡ A b.two → mark 3 ≡ A b.three → mark 4 ≡ A b.four → mark 5 ≡ A b.five → is_enough conf_of_five q (length q) mark c ≡ enough b
   enough_at mark c b one two three four fifth =
       (λ i. enough_for conf_of_five (take_all (length q) q (omega arith) i) mark c)
-      ∙ (λ i. met (conf_is q no_members i) (λ v. nat_le (length q) (mark v)) && (low i || met (older_conf conf_of_five q) (λ v. nat_le (conf_index q) (mark v))))
+      ∙ (λ i. met (conf_is q round.plain i) (λ v. nat_le (length q) (mark v)) && (low i || met (older_conf conf_of_five q) (λ v. nat_le (conf_index q) (mark v))))
       ∙ and_true (met conf_of_five (λ v. nat_le (length q) (mark v)))
       ∙ counted mark b one two three four fifth
     where
       low : nat_le (conf_index q) c ≡ true
-      low = (λ i. nat_le (index_is q no_members i) c) ∙ le-leb 0 c (omega arith)
+      low = (λ i. nat_le (index_is q round.plain i) c) ∙ le-leb 0 c (omega arith)
 
   -- the greatest index that passes, where only the last one may pass
   greatest_is : (passes : ℕ → Bool) (had b : Bool) → (had ≡ false → passes (length q) ≡ b) → greatest_above passes (A had) (length q - A had) ≡ A (had || b)
@@ -187,10 +210,10 @@ module _ (link : Link) (q : Path) (n : ℕ) (long : length q ≡ n + 1) (no_memb
     where
       none : length q - length q ≡ 0
       none = omega arith
-  greatest_is passes false b h = (λ i. greatest_above passes n (single i)) ∙ (λ i. cond (passes (sym long i)) (sym long i) n) ∙ (λ i. cond (h refl i) (length q) n)
+  greatest_is passes false b h = (λ i. greatest_above passes n (single i)) ∙ (λ i. cond (passes (sym round.long i)) (sym round.long i) n) ∙ (λ i. cond (h refl i) (length q) n)
     where
       single : length q - n ≡ 1
-      single = omega (arith, long)
+      single = omega (arith, round.long)
 
   -- up to an index that is reached or not
   greatest_to : (passes : ℕ → Bool) (had top b : Bool) → (top ≡ true → had ≡ false → passes (length q) ≡ b) → greatest_above passes (A had) (A top - A had) ≡ A (had || (top && b))
@@ -198,109 +221,34 @@ module _ (link : Link) (q : Path) (n : ℕ) (long : length q ≡ n + 1) (no_memb
   greatest_to passes true false b h = λ i. greatest_above passes (length q) (none i)
     where
       none : n - length q ≡ 0
-      none = omega (arith, long)
+      none = omega (arith, round.long)
   greatest_to passes false false b h = λ i. greatest_above passes n (none i)
     where
       none : n - n ≡ 0
       none = omega arith
 
-  -- where it sends each follower what follows from x on
-  module _ (x : ℕ) (pr cm : Bool) (m r : Each Bool) where
-    abbrev l : Leading
-    l = leading (all x) (As m) (As r)
+  -- what is due, and what stays
+  due : (a c : Bool) (w : Option ClientAsk) → filter (λ (t : Ticket). nat_lt (A a) t.index && nat_le t.index (A c)) (cond a [] (tickets q w)) ≡ cond a [] (cond c (tickets q w) [])
+  due true c w = refl
+  due false true None = refl
+  due false false None = refl
+  due false c (Some x) = λ i. cond (lt_at q n round.long false true i && le_at q n round.long c i) (tickets q (Some x)) []
 
-    abbrev pub s : Replica
-    s = leader q (A cm - KEPT_BELOW) (A pr) (A cm) (T cm) l
+  stay : (a c : Bool) (w : Option ClientAsk) → filter (λ (t : Ticket). not (nat_lt (A a) t.index && nat_le t.index (A c))) (cond a [] (tickets q w)) ≡ cond (a || c) [] (tickets q w)
+  stay true c w = refl
+  stay false true None = refl
+  stay false false None = refl
+  stay false c (Some x) = (λ i. cond (not (lt_at q n round.long false true i && le_at q n round.long c i)) (tickets q (Some x)) []) ∙ turned c
+    where
+      turned : (c : Bool) → cond (not c) (tickets q (Some x)) [] ≡ cond c [] (tickets q (Some x))
+      turned true = refl
+      turned false = refl
 
-    abbrev pub pr' : Bool
-    pr' = pr || enough m
-
-    abbrev pub k : Bool
-    k = cm || (pr' && enough r)
-
-    abbrev pub cm' : Bool
-    cm' = cm || k
-
-    promise_to : promise_index s l ≡ A pr'
-    promise_to = greatest_is (may_promise s l) pr (enough m) (λ h. (λ i. (own i == 1) && is_enough conf_of_five q (length q) (accepted_mark s l) (A cm)) ∙ enough_at (accepted_mark s l) (A cm) m refl refl refl refl refl)
-
-    -- when it has promised this
-    abbrev between : ℕ → Replica
-    between a = record s { promised = a }
-
-    reached_by : (top : Bool) → top ≡ true → promised_mark (between (A top)) l 1 ≡ length q
-    reached_by true h = refl
-    reached_by false h = absurd (let e : false ≡ true = h in cc)
-
-    commit_to_ : commit_index (between (A pr')) l ≡ A k
-    commit_to_ = greatest_to (may_commit (between (A pr')) l) cm pr' (enough r) (λ top h. enough_at (promised_mark (between (A pr')) l) (A cm) r (reached_by pr' top) refl refl refl refl)
-
-    abbrev pub raised : ℕ → ℕ → Call
-    raised a i = moment (commit_to (moment (record (moment (still s)) { state = between a })) i)
-
-    pub raise_is : raise (still s) l ≡ raised (A pr') (A k)
-    raise_is =
-        (λ i. raised (promise_to i) (commit_index (between (promise_to i)) l))
-        ∙ (λ i. raised (A pr') (commit_to_ i))
-
-    -- what is due, and what stays
-    due : (a c : Bool) (w : Option ClientAsk) → filter (λ (t : Ticket). nat_lt (A a) t.index && nat_le t.index (A c)) (cond a [] (tickets q w)) ≡ cond a [] (cond c (tickets q w) [])
-    due true c w = refl
-    due false true None = refl
-    due false false None = refl
-    due false c (Some x) = λ i. cond (lt_at q n long false true i && le_at q n long c i) (tickets q (Some x)) []
-
-    stay : (a c : Bool) (w : Option ClientAsk) → filter (λ (t : Ticket). not (nat_lt (A a) t.index && nat_le t.index (A c))) (cond a [] (tickets q w)) ≡ cond (a || c) [] (tickets q w)
-    stay true c w = refl
-    stay false true None = refl
-    stay false false None = refl
-    stay false c (Some x) = (λ i. cond (not (lt_at q n long false true i && le_at q n long c i)) (tickets q (Some x)) []) ∙ turned c
-      where
-        turned : (c : Bool) → cond (not c) (tickets q (Some x)) [] ≡ cond c [] (tickets q (Some x))
-        turned true = refl
-        turned false = refl
-
-    told_by : (a c : Bool) → filter_map (outcome_of s) (cond a [] (cond c (tickets q o) [])) ≡ cond a [] (cond c (outcomes q o) [])
-    told_by true c = refl
-    told_by false true = refl
-    told_by false false = refl
-
-    -- the call after its raise, before its end
-    abbrev pub done : List ℕ → Call
-    done to = record (raised (A pr') (A k)) { state = leader q (A cm - KEPT_BELOW) (A pr') (A cm') (T cm') l; appends = to }
-
-    pub raised_done : raised (A pr') (A k) ≡ done []
-    raised_done = λ i. record (raised (A pr') (A k)) { state = leader q (A cm - KEPT_BELOW) (A pr') (max_at q n long cm k i) (stay cm k o i) l }
-
-    base_is : (a b : Bool) → max (A a - KEPT_BELOW) (A (a || b) - KEPT_BELOW) ≡ A (a || b) - KEPT_BELOW
-    base_is true true = omega arith
-    base_is true false = omega arith
-    base_is false true = omega (arith, long)
-    base_is false false = omega arith
-
-    abbrev pub after : ℕ → Replica
-    after x' = leader q (A cm' - KEPT_BELOW) (A pr') (A cm') (T cm') (leading (all x') (As m) (As r))
-
-    -- its outcomes
-    outcomes_are : (raised (A pr') (A k)).batch.answers ≡ cond cm [] (cond k (outcomes q o) [])
-    outcomes_are = (λ i. filter_map (outcome_of s) (due cm k o i)) ∙ told_by cm k
-
-    abbrev Ends : Call → ℕ → List (ℕ × Message) → Type 0
-    Ends c x' sent = Did (told (with_end link c)) (after x') sent (cond cm [] (cond k (outcomes q o) []))
-
-    pub ends_silent : Ends (done []) x []
-    ends_silent =
-        did _ _ _ _ _ (λ i. told (record (done []) { state = base_moved (stays q no_members (A cm - KEPT_BELOW) (A pr') (A cm') (T cm') l i) }))
-        (record { state = λ i. leader q (base_is cm k i) (A pr') (A cm') (T cm') l; sent = refl; answers = outcomes_are; saved = refl; halt = refl })
-
-    pub ends_sending : (x' : ℕ) (es : Path) (pt : Point) → entries_from q x ≡ es → x + length (entries_from q x) ≡ x' → point link q (x - 1) ≡ pt → length q < x + 1
-        → Ends (done (2 ∷ 3 ∷ 4 ∷ 5 ∷ [])) x' (four_of (offer pt es (A pr') (A cm')))
-    ends_sending x' es pt entries_is next_is point_is high =
-        did _ _ _ _ _ (λ i. told (sending i))
-        (record { state = λ i. leader q (base_is cm k i) (A pr') (A cm') (T cm') (leading (all x') (As m) (As r)); sent = refl; answers = outcomes_are; saved = refl; halt = refl })
-      where
-        sending : ended link (done (2 ∷ 3 ∷ 4 ∷ 5 ∷ [])) None ≡ record (raised (A pr') (A k)) { state = leader q (max (A cm - KEPT_BELOW) (A cm' - KEPT_BELOW)) (A pr') (A cm') (T cm') (leading (all x') (As m) (As r)); sent = four_of (offer pt es (A pr') (A cm')); appends = [] }
-        sending = ends_sent link q (A cm - KEPT_BELOW) (A pr') (A cm') (T cm') (As m) (As r) (raised (A pr') (A k)).batch (raised (A pr') (A k)).moments x x' es pt entries_is next_is point_is (lt-ltb (A cm - KEPT_BELOW) x (omega (arith, below_whole q n long cm, long))) no_members
+  base_is : (a b : Bool) → max (A a - KEPT_BELOW) (A (a || b) - KEPT_BELOW) ≡ A (a || b) - KEPT_BELOW
+  base_is true true = omega arith
+  base_is true false = omega arith
+  base_is false true = omega (arith, round.long)
+  base_is false false = omega arith
 
   -- after the last entry nothing is left to send
   pub nothing_left : entries_from q next ≡ []
@@ -318,83 +266,130 @@ module _ (link : Link) (q : Path) (n : ℕ) (long : length q ≡ n + 1) (no_memb
       front : take (next - 1) q ≡ q
       front = take_all (next - 1) q (omega arith)
 
-  module _ (pr cm : Bool) (m r : Each Bool) where
-    abbrev pub pr'' : Bool
-    pr'' = pr || enough m
+  module _ (led : Led) where
+    abbrev to : Led
+    to = rises led
 
-    abbrev pub cm'' : Bool
-    cm'' = cm || (cm || (pr'' && enough r))
+    abbrev replied : List (ClientId × ℕ × Answer)
+    replied = cond led.committed [] (cond (commits_by led) (outcomes q round.ask) [])
+
+    abbrev Ends : Call → List (ℕ × Message) → Type 0
+    Ends c sent = Did (told (with_end link c)) (leads to) sent replied
+
+    -- where it sends each follower what follows from x on
+    module _ (x : ℕ) where
+      abbrev l : Leading
+      l = leading (all x) (As led.marks) (As led.promises)
+
+      abbrev s : Replica
+      s = leader q (A led.committed - KEPT_BELOW) (A led.promised) (A led.committed) (T led.committed) l
+
+      promise_to : promise_index s l ≡ A to.promised
+      promise_to = greatest_is (may_promise s l) led.promised (enough led.marks)
+          (λ h. (λ i. (round.own i == 1) && is_enough conf_of_five q (length q) (accepted_mark s l) (A led.committed)) ∙ enough_at (accepted_mark s l) (A led.committed) led.marks refl refl refl refl refl)
+
+      -- when it has promised this
+      abbrev between : ℕ → Replica
+      between a = record s { promised = a }
+
+      reached_by : (top : Bool) → top ≡ true → promised_mark (between (A top)) l 1 ≡ length q
+      reached_by true h = refl
+      reached_by false h = absurd (let e : false ≡ true = h in cc)
+
+      commit_to_ : commit_index (between (A to.promised)) l ≡ A (commits_by led)
+      commit_to_ = greatest_to (may_commit (between (A to.promised)) l) led.committed to.promised (enough led.promises)
+          (λ top h. enough_at (promised_mark (between (A to.promised)) l) (A led.committed) led.promises (reached_by to.promised top) refl refl refl refl)
+
+      abbrev raised : ℕ → ℕ → Call
+      raised a i = moment (commit_to (moment (record (moment (still s)) { state = between a })) i)
+
+      -- the call after its raise, before its end
+      abbrev pub done : List ℕ → Call
+      done to_whom = record (raised (A to.promised) (A (commits_by led))) { state = leader q (A led.committed - KEPT_BELOW) (A to.promised) (A to.committed) (T to.committed) l; appends = to_whom }
+
+      pub raise_is : raise (still s) l ≡ done []
+      raise_is =
+          (λ i. raised (promise_to i) (commit_index (between (promise_to i)) l))
+          ∙ (λ i. raised (A to.promised) (commit_to_ i))
+          ∙ (λ i. record (raised (A to.promised) (A (commits_by led))) { state = leader q (A led.committed - KEPT_BELOW) (A to.promised) (max_at q n round.long led.committed (commits_by led) i) (stay led.committed (commits_by led) round.ask i) l })
+
+      -- its outcomes
+      outcomes_are : (done []).batch.answers ≡ replied
+      outcomes_are = (λ i. filter_map (outcome_of s) (due led.committed (commits_by led) round.ask i)) ∙ told_by led.committed (commits_by led)
+        where
+          told_by : (a c : Bool) → filter_map (outcome_of s) (cond a [] (cond c (tickets q round.ask) [])) ≡ cond a [] (cond c (outcomes q round.ask) [])
+          told_by true c = refl
+          told_by false true = refl
+          told_by false false = refl
+
+      pub ends_sending : (es : Path) (pt : Point) → entries_from q x ≡ es → x + length (entries_from q x) ≡ next → point link q (x - 1) ≡ pt → length q < x + 1
+          → Ends (done (2 ∷ 3 ∷ 4 ∷ 5 ∷ [])) (four_of (offer pt es (A to.promised) (A to.committed)))
+      ends_sending es pt entries_is next_is point_is high =
+          did _ _ _ _ _ (λ i. told (sending i))
+          (record { state = λ i. leader q (base_is led.committed (commits_by led) i) (A to.promised) (A to.committed) (T to.committed) (known led); sent = refl; answers = outcomes_are; saved = refl; halt = refl })
+        where
+          low : nat_lt (A led.committed - KEPT_BELOW) x ≡ true
+          low = lt-ltb (A led.committed - KEPT_BELOW) x (omega (arith, below_whole q n round.long led.committed, round.long))
+
+          sending : ended link (done (2 ∷ 3 ∷ 4 ∷ 5 ∷ [])) None
+              ≡ record (done []) { state = leader q (max (A led.committed - KEPT_BELOW) (A to.committed - KEPT_BELOW)) (A to.promised) (A to.committed) (T to.committed) (known led); sent = four_of (offer pt es (A to.promised) (A to.committed)) }
+          sending = ends_sent link q (A led.committed - KEPT_BELOW) (A to.promised) (A to.committed) (T to.committed) (As led.marks) (As led.promises) (done []).batch (done []).moments x next es pt entries_is next_is point_is low round.plain
 
     abbrev pub more : Message
-    more = offer (whole link q) [] (A pr'') (A cm'')
+    more = offer (whole link q) [] (A to.promised) (A to.committed)
 
-    abbrev pub rose : Bool
-    rose = (not pr && pr'') || (not cm && cm'')
-
-    ended_by : (b : Bool) → Ends next pr cm m r (cond b (done next pr cm m r (2 ∷ 3 ∷ 4 ∷ 5 ∷ [])) (done next pr cm m r [])) next (cond b (four_of more) [])
-    ended_by false = ends_silent next pr cm m r
-    ended_by true = ends_sending next pr cm m r next [] (whole link q) nothing_left after_all whole_is (omega arith)
+    ended_by : (b : Bool) → Ends (cond b (done next (2 ∷ 3 ∷ 4 ∷ 5 ∷ [])) (done next [])) (cond b (four_of more) [])
+    ended_by false =
+        did _ _ _ _ _ (λ i. told (record (done next []) { state = base_moved (stays q round.plain (A led.committed - KEPT_BELOW) (A to.promised) (A to.committed) (T to.committed) (known led) i) }))
+        (record { state = λ i. leader q (base_is led.committed (commits_by led) i) (A to.promised) (A to.committed) (T to.committed) (known led); sent = refl; answers = outcomes_are next; saved = refl; halt = refl })
+    ended_by true = ends_sending next [] (whole link q) nothing_left after_all whole_is (omega arith)
 
     -- after an acceptance, by which it knows this much
-    after_is : (old : Replica) (v : ℕ) → old.promised ≡ A pr → old.committed ≡ A cm → old.path ≡ q → (progress_of (known m r) v).next ≡ next → after_raise old (raise (still (leads pr cm m r)) (known m r)) (known m r) v ≡ cond rose (done next pr cm m r (2 ∷ 3 ∷ 4 ∷ 5 ∷ [])) (done next pr cm m r [])
+    after_is : (old : Replica) (v : ℕ) → old.promised ≡ A led.promised → old.committed ≡ A led.committed → old.path ≡ q → (progress_of (known led) v).next ≡ next
+        → after_raise old (raise (still (leads led)) (known led)) (known led) v ≡ cond (rose led) (done next (2 ∷ 3 ∷ 4 ∷ 5 ∷ [])) (done next [])
     after_is old v promised committed path next_is =
-        (λ i. after_raise old ((raise_is next pr cm m r ∙ raised_done next pr cm m r) i) (known m r) v)
-        ∙ (λ i. cond (nat_lt (promised i) (A pr'') || nat_lt (committed i) (A cm'')) (to_every_peer (done next pr cm m r []) (known m r)) (cond (nat_le (next_is i) (length (path i))) (to_peer (done next pr cm m r []) v) (done next pr cm m r [])))
-        ∙ (λ i. cond (lt_at q n long pr pr'' i || lt_at q n long cm cm'' i) (to_every_peer (done next pr cm m r []) (known m r)) (cond (lt-leb next (length q) (omega arith) i) (to_peer (done next pr cm m r []) v) (done next pr cm m r [])))
-        ∙ (λ i. cond rose (done next pr cm m r (peers_are q no_members (A cm - KEPT_BELOW) (A pr'') (A cm'') (T cm'') (all next) (As m) (As r) i)) (done next pr cm m r []))
+        (λ i. after_raise old (raise_is next i) (known led) v)
+        ∙ (λ i. cond (nat_lt (promised i) (A to.promised) || nat_lt (committed i) (A to.committed)) (to_every_peer (done next []) (known led)) (cond (nat_le (next_is i) (length (path i))) (to_peer (done next []) v) (done next [])))
+        ∙ (λ i. cond (lt_at q n round.long led.promised to.promised i || lt_at q n round.long led.committed to.committed i) (to_every_peer (done next []) (known led)) (cond (lt-leb next (length q) (omega arith) i) (to_peer (done next []) v) (done next [])))
+        ∙ (λ i. cond (rose led) (done next (peers_are q round.plain (A led.committed - KEPT_BELOW) (A to.promised) (A to.committed) (T to.committed) (all next) (As led.marks) (As led.promises) i)) (done next []))
 
   -- it hears an acceptance of the whole path
-  module _ (pr cm : Bool) (m r : Each Bool) where
-    matched : is_hash (cond (nat_le (A cm - KEPT_BELOW) (length q) && nat_le (length q) (length q)) (Some (chain link (take (length q) q))) None) (chain link q) ≡ true
+  module _ (led : Led) (v : Who) (x : Bool) where
+    abbrev then : Led
+    then = taken v x led
+
+    matched : is_hash (cond (nat_le (A led.committed - KEPT_BELOW) (length q) && nat_le (length q) (length q)) (Some (chain link (take (length q) q))) None) (chain link q) ≡ true
     matched =
-        (λ i. is_hash (cond (le-leb (A cm - KEPT_BELOW) (length q) (omega (arith, below_whole q n long cm)) i && le-leb (length q) (length q) (omega arith) i) (Some (chain link (take_all (length q) q (omega arith) i))) None) (chain link q))
+        (λ i. is_hash (cond (le-leb (A led.committed - KEPT_BELOW) (length q) (omega (arith, below_whole q n round.long led.committed)) i && le-leb (length q) (length q) (omega arith) i) (Some (chain link (take_all (length q) q (omega arith) i))) None) (chain link q))
         ∙ hash_same (chain link q)
 
-    next_is : max next (length q + 1) ≡ next
-    next_is = omega arith
+    is_one : is_in (2 ∷ 3 ∷ 4 ∷ 5 ∷ []) (id_of v) ≡ true
+    is_one = each (λ w. is_in (2 ∷ 3 ∷ 4 ∷ 5 ∷ []) (id_of w) ≡ true) refl refl refl refl v
 
-    mark_is : (b : Bool) → max (A b) (length q) ≡ length q
-    mark_is b = omega (arith, below_whole q n long b)
-
-    promise_is : (b x : Bool) → max (A b) (min (A x) (length q)) ≡ A (b || x)
-    promise_is b x = (λ i. max (A b) (min_whole q n long x i)) ∙ max_at q n long b x
-
-    pub hears_two : (x : Bool) → Did (step link (leads pr cm m r) (Peer 2 (acceptance (whole link q) (A x)))) (after next pr cm (record m { two = true }) (record r { two = r.two || x }) next) (cond (rose pr cm (record m { two = true }) (record r { two = r.two || x })) (four_of (more pr cm (record m { two = true }) (record r { two = r.two || x }))) []) (cond cm [] (cond (k next pr cm (record m { two = true }) (record r { two = r.two || x })) (outcomes q o) []))
-    hears_two x =
-        did _ _ _ _ _ (λ i. told (with_end link (heard i))) (ended_by pr cm (record m { two = true }) (record r { two = r.two || x }) (rose pr cm (record m { two = true }) (record r { two = r.two || x })))
+    -- what it knows of it then
+    learnt : with_progress (known led) (id_of v) (accepted_upto (progress_of (known led) (id_of v)) (length q) (A x)) ≡ known then
+    learnt =
+        each (λ w. with_progress (known led) (id_of w) (accepted_upto (progress_of (known led) (id_of w)) (length q) (A x)) ≡ known (taken w x led))
+        (λ i. leading (set Two (next_is i) (all next)) (set Two (mark_is led.marks.two i) (As led.marks)) (set Two (promise_is led.promises.two i) (As led.promises)))
+        (λ i. leading (set Three (next_is i) (all next)) (set Three (mark_is led.marks.three i) (As led.marks)) (set Three (promise_is led.promises.three i) (As led.promises)))
+        (λ i. leading (set Four (next_is i) (all next)) (set Four (mark_is led.marks.four i) (As led.marks)) (set Four (promise_is led.promises.four i) (As led.promises)))
+        (λ i. leading (set Five (next_is i) (all next)) (set Five (mark_is led.marks.five i) (As led.marks)) (set Five (promise_is led.promises.five i) (As led.promises)))
+        v
       where
-        heard : accepted_heard link (leads pr cm m r) (Leader (known m r)) 2 (whole link q) (A x) ≡ cond (rose pr cm (record m { two = true }) (record r { two = r.two || x })) (done next pr cm (record m { two = true }) (record r { two = r.two || x }) (2 ∷ 3 ∷ 4 ∷ 5 ∷ [])) (done next pr cm (record m { two = true }) (record r { two = r.two || x }) [])
-        heard =
-            (λ i. cond (is_in (peers_are q no_members (A cm - KEPT_BELOW) (A pr) (A cm) (T cm) (all next) (As m) (As r) i) 2 && matched i) (accepted_by (leads pr cm m r) (with_progress (known m r) 2 (accepted_upto (progress_of (known m r) 2) (length q) (A x))) 2) (still (leads pr cm m r)))
-            ∙ (λ i. accepted_by (leads pr cm m r) (record { progress = (2, progress (next_is i) (mark_is m.two i) (promise_is r.two x i)) ∷ (3, progress next (A m.three) (A r.three)) ∷ (4, progress next (A m.four) (A r.four)) ∷ (5, progress next (A m.five) (A r.five)) ∷ []; learners = []; sendings = [] }) 2)
-            ∙ after_is pr cm (record m { two = true }) (record r { two = r.two || x }) (leads pr cm m r) 2 refl refl refl refl
+        next_is : max next (length q + 1) ≡ next
+        next_is = omega arith
 
-    pub hears_three : (x : Bool) → Did (step link (leads pr cm m r) (Peer 3 (acceptance (whole link q) (A x)))) (after next pr cm (record m { three = true }) (record r { three = r.three || x }) next) (cond (rose pr cm (record m { three = true }) (record r { three = r.three || x })) (four_of (more pr cm (record m { three = true }) (record r { three = r.three || x }))) []) (cond cm [] (cond (k next pr cm (record m { three = true }) (record r { three = r.three || x })) (outcomes q o) []))
-    hears_three x =
-        did _ _ _ _ _ (λ i. told (with_end link (heard i))) (ended_by pr cm (record m { three = true }) (record r { three = r.three || x }) (rose pr cm (record m { three = true }) (record r { three = r.three || x })))
-      where
-        heard : accepted_heard link (leads pr cm m r) (Leader (known m r)) 3 (whole link q) (A x) ≡ cond (rose pr cm (record m { three = true }) (record r { three = r.three || x })) (done next pr cm (record m { three = true }) (record r { three = r.three || x }) (2 ∷ 3 ∷ 4 ∷ 5 ∷ [])) (done next pr cm (record m { three = true }) (record r { three = r.three || x }) [])
-        heard =
-            (λ i. cond (is_in (peers_are q no_members (A cm - KEPT_BELOW) (A pr) (A cm) (T cm) (all next) (As m) (As r) i) 3 && matched i) (accepted_by (leads pr cm m r) (with_progress (known m r) 3 (accepted_upto (progress_of (known m r) 3) (length q) (A x))) 3) (still (leads pr cm m r)))
-            ∙ (λ i. accepted_by (leads pr cm m r) (record { progress = (2, progress next (A m.two) (A r.two)) ∷ (3, progress (next_is i) (mark_is m.three i) (promise_is r.three x i)) ∷ (4, progress next (A m.four) (A r.four)) ∷ (5, progress next (A m.five) (A r.five)) ∷ []; learners = []; sendings = [] }) 3)
-            ∙ after_is pr cm (record m { three = true }) (record r { three = r.three || x }) (leads pr cm m r) 3 refl refl refl refl
+        mark_is : (b : Bool) → max (A b) (length q) ≡ length q
+        mark_is b = omega (arith, below_whole q n round.long b)
 
-    pub hears_four : (x : Bool) → Did (step link (leads pr cm m r) (Peer 4 (acceptance (whole link q) (A x)))) (after next pr cm (record m { four = true }) (record r { four = r.four || x }) next) (cond (rose pr cm (record m { four = true }) (record r { four = r.four || x })) (four_of (more pr cm (record m { four = true }) (record r { four = r.four || x }))) []) (cond cm [] (cond (k next pr cm (record m { four = true }) (record r { four = r.four || x })) (outcomes q o) []))
-    hears_four x =
-        did _ _ _ _ _ (λ i. told (with_end link (heard i))) (ended_by pr cm (record m { four = true }) (record r { four = r.four || x }) (rose pr cm (record m { four = true }) (record r { four = r.four || x })))
-      where
-        heard : accepted_heard link (leads pr cm m r) (Leader (known m r)) 4 (whole link q) (A x) ≡ cond (rose pr cm (record m { four = true }) (record r { four = r.four || x })) (done next pr cm (record m { four = true }) (record r { four = r.four || x }) (2 ∷ 3 ∷ 4 ∷ 5 ∷ [])) (done next pr cm (record m { four = true }) (record r { four = r.four || x }) [])
-        heard =
-            (λ i. cond (is_in (peers_are q no_members (A cm - KEPT_BELOW) (A pr) (A cm) (T cm) (all next) (As m) (As r) i) 4 && matched i) (accepted_by (leads pr cm m r) (with_progress (known m r) 4 (accepted_upto (progress_of (known m r) 4) (length q) (A x))) 4) (still (leads pr cm m r)))
-            ∙ (λ i. accepted_by (leads pr cm m r) (record { progress = (2, progress next (A m.two) (A r.two)) ∷ (3, progress next (A m.three) (A r.three)) ∷ (4, progress (next_is i) (mark_is m.four i) (promise_is r.four x i)) ∷ (5, progress next (A m.five) (A r.five)) ∷ []; learners = []; sendings = [] }) 4)
-            ∙ after_is pr cm (record m { four = true }) (record r { four = r.four || x }) (leads pr cm m r) 4 refl refl refl refl
+        promise_is : (b : Bool) → max (A b) (min (A x) (length q)) ≡ A (b || x)
+        promise_is b = (λ i. max (A b) (min_whole q n round.long x i)) ∙ max_at q n round.long b x
 
-    pub hears_five : (x : Bool) → Did (step link (leads pr cm m r) (Peer 5 (acceptance (whole link q) (A x)))) (after next pr cm (record m { five = true }) (record r { five = r.five || x }) next) (cond (rose pr cm (record m { five = true }) (record r { five = r.five || x })) (four_of (more pr cm (record m { five = true }) (record r { five = r.five || x }))) []) (cond cm [] (cond (k next pr cm (record m { five = true }) (record r { five = r.five || x })) (outcomes q o) []))
-    hears_five x =
-        did _ _ _ _ _ (λ i. told (with_end link (heard i))) (ended_by pr cm (record m { five = true }) (record r { five = r.five || x }) (rose pr cm (record m { five = true }) (record r { five = r.five || x })))
-      where
-        heard : accepted_heard link (leads pr cm m r) (Leader (known m r)) 5 (whole link q) (A x) ≡ cond (rose pr cm (record m { five = true }) (record r { five = r.five || x })) (done next pr cm (record m { five = true }) (record r { five = r.five || x }) (2 ∷ 3 ∷ 4 ∷ 5 ∷ [])) (done next pr cm (record m { five = true }) (record r { five = r.five || x }) [])
-        heard =
-            (λ i. cond (is_in (peers_are q no_members (A cm - KEPT_BELOW) (A pr) (A cm) (T cm) (all next) (As m) (As r) i) 5 && matched i) (accepted_by (leads pr cm m r) (with_progress (known m r) 5 (accepted_upto (progress_of (known m r) 5) (length q) (A x))) 5) (still (leads pr cm m r)))
-            ∙ (λ i. accepted_by (leads pr cm m r) (record { progress = (2, progress next (A m.two) (A r.two)) ∷ (3, progress next (A m.three) (A r.three)) ∷ (4, progress next (A m.four) (A r.four)) ∷ (5, progress (next_is i) (mark_is m.five i) (promise_is r.five x i)) ∷ []; learners = []; sendings = [] }) 5)
-            ∙ after_is pr cm (record m { five = true }) (record r { five = r.five || x }) (leads pr cm m r) 5 refl refl refl refl
+    heard : accepted_heard link (leads led) (Leader (known led)) (id_of v) (whole link q) (A x) ≡ cond (rose then) (done then next (2 ∷ 3 ∷ 4 ∷ 5 ∷ [])) (done then next [])
+    heard =
+        (λ i. cond (is_in (peers_are q round.plain (A led.committed - KEPT_BELOW) (A led.promised) (A led.committed) (T led.committed) (all next) (As led.marks) (As led.promises) i) (id_of v) && matched i) (accepted_by (leads led) (learnt i) (id_of v)) (still (leads led)))
+        ∙ (λ i. cond (is_one i && true) (accepted_by (leads led) (known then) (id_of v)) (still (leads led)))
+        ∙ after_is then (leads led) (id_of v) refl refl refl (each (λ w. (progress_of (known (taken w x led)) (id_of w)).next ≡ next) refl refl refl refl v)
+
+    pub hears : Did (step link (leads led) (Peer (id_of v) (acceptance (whole link q) (A x)))) (leads (rises then)) (cond (rose then) (four_of (more then)) []) (cond led.committed [] (cond (commits_by then) (outcomes q round.ask) []))
+    hears = did _ _ _ _ _ (λ i. told (with_end link (heard i))) (ended_by then (rose then))

@@ -1,34 +1,8 @@
 -- A round of one entry among five replicas, by what each of them has come to.
 use Rattle.std.proofs.Common.{◌≡◌, ℕ, zero, suc, ◌+◌, ◌&&◌, ◌||◌, not, Bool, true, false, List, [], ◌∷◌, ◌++◌, refl}
 use Rattle.std.specs.Prelude.{nat_lt, cond}
-use Rattle.drill_laws.proofs.Setting.{Each, all}
-use Rattle.drill_laws.proofs.Leads.{enough}
-
--- the followers
-pub data Who : Type 0 where
-  Two : Who
-  Three : Who
-  Four : Who
-  Five : Who
-
-abbrev pub id_of : Who → ℕ
-id_of Two = 2
-id_of Three = 3
-id_of Four = 4
-id_of Five = 5
-
-module _ {A : Type 0} where
-  abbrev pub of : Who → Each A → A
-  of Two e = e.two
-  of Three e = e.three
-  of Four e = e.four
-  of Five e = e.five
-
-  abbrev pub set : Who → A → Each A → Each A
-  set Two a e = record e { two = a }
-  set Three a e = record e { three = a }
-  set Four a e = record e { four = a }
-  set Five a e = record e { five = a }
+use Rattle.drill_laws.proofs.Setting.{Each, all, Who, Two, Three, Four, Five, of, set}
+use Rattle.drill_laws.proofs.Leads.{Led, led_all, taken, rises, rose}
 
 -- whether a follower has the entry, has promised it, and has committed it
 pub record Has : Type 0 where
@@ -43,11 +17,7 @@ pub data Note : Type 0 where
   Taken : (from : Who) (promised : Bool) → Note
 
 pub record Course : Type 0 where
-  -- the leader: what it has promised and committed, and what it knows of its followers
-  pub promised : Bool
-  pub committed : Bool
-  pub marks : Each Bool
-  pub promises : Each Bool
+  pub leader : Led
   pub followers : Each Has
   -- the messages that wait
   pub queue : List Note
@@ -71,31 +41,23 @@ follows_on c v rest h =
 abbrev pub raised_has : Has → Bool → Bool → Has
 raised_has h x y = record { entry = true; promised = h.promised || x; committed = h.committed || (y && x) }
 
--- the leader after a message
-abbrev pub rises : Course → List Note → Each Bool → Each Bool → Bool → Bool → Course
-rises c rest m r pr cm =
-    let rose : Bool = (not c.promised && pr) || (not c.committed && cm) in
+-- the leader after a message, by which it knows this much
+abbrev pub leads_on : Course → List Note → Led → Course
+leads_on c rest led =
     record {
-      promised = pr;
-      committed = cm;
-      marks = m;
-      promises = r;
+      leader = rises led;
       followers = c.followers;
-      queue = rest ++ cond rose (raised_to_all pr cm) [];
+      queue = rest ++ cond (rose led) (raised_to_all (rises led).promised (rises led).committed) [];
       steps = c.steps + 1;
-      sent = c.sent + cond rose 4 0;
+      sent = c.sent + cond (rose led) 4 0;
     }
-
-abbrev pub hears_taken : Course → List Note → Each Bool → Each Bool → Course
-hears_taken c rest m r =
-    rises c rest m r (c.promised || enough m) (c.committed || (c.committed || ((c.promised || enough m) && enough r)))
 
 -- the course after its first message is delivered
 abbrev pub goes_by : Course → List Note → Course
 goes_by c [] = c
 goes_by c (Entry v ∷ rest) = follows_on c v rest (record { entry = true; promised = false; committed = false })
 goes_by c (Raised v x y ∷ rest) = follows_on c v rest (raised_has (of v c.followers) x y)
-goes_by c (Taken v x ∷ rest) = hears_taken c rest (set v true c.marks) (set v (of v c.promises || x) c.promises)
+goes_by c (Taken v x ∷ rest) = leads_on c rest (taken v x c.leader)
 
 abbrev pub goes : Course → Course
 goes c = goes_by c c.queue
@@ -120,10 +82,7 @@ after_steps (suc n) c = after_steps n (goes c)
 abbrev pub begins : Course
 begins =
     record {
-      promised = false;
-      committed = false;
-      marks = all false;
-      promises = all false;
+      leader = led_all false;
       followers = all (record { entry = false; promised = false; committed = false });
       queue = Entry Two ∷ Entry Three ∷ Entry Four ∷ Entry Five ∷ [];
       steps = 0;
@@ -133,10 +92,7 @@ begins =
 abbrev pub settles : ℕ → ℕ → Course
 settles steps sent =
     record {
-      promised = true;
-      committed = true;
-      marks = all true;
-      promises = all true;
+      leader = led_all true;
       followers = all (record { entry = true; promised = true; committed = true });
       queue = [];
       steps = steps;

@@ -47,6 +47,39 @@ pub record Each (A : Type 0) : Type 0 where
 abbrev pub all : {A : Type 0} → A → Each A
 all a = record { two = a; three = a; four = a; five = a }
 
+-- the followers
+pub data Who : Type 0 where
+  Two : Who
+  Three : Who
+  Four : Who
+  Five : Who
+
+-- what holds of each of the four
+pub each : (P : Who → Type 0) → P Two → P Three → P Four → P Five → (v : Who) → P v
+each P a b c d Two = a
+each P a b c d Three = b
+each P a b c d Four = c
+each P a b c d Five = d
+
+abbrev pub id_of : Who → ℕ
+id_of Two = 2
+id_of Three = 3
+id_of Four = 4
+id_of Five = 5
+
+module _ {A : Type 0} where
+  abbrev pub of : Who → Each A → A
+  of Two e = e.two
+  of Three e = e.three
+  of Four e = e.four
+  of Five e = e.five
+
+  abbrev pub set : Who → A → Each A → Each A
+  set Two a e = record e { two = a }
+  set Three a e = record e { three = a }
+  set Four a e = record e { four = a }
+  set Five a e = record e { five = a }
+
 abbrev pub progress : ℕ → ℕ → ℕ → Progress
 progress next mark promised = record { next = next; mark = mark; promised = promised }
 
@@ -98,42 +131,42 @@ four_of m = (2, m) ∷ (3, m) ∷ (4, m) ∷ (5, m) ∷ []
 abbrev pub acceptance : Point → ℕ → Message
 acceptance end promised = plain (Accepted 1 end promised)
 
+-- the whole path is reached, or n
+abbrev pub at : Path → ℕ → Bool → ℕ
+at q n b = cond b (length q) n
+
 -- in a round the path is one entry longer than n
 module _ (q : Path) (n : ℕ) (long : length q ≡ n + 1) where
-  -- the index that is reached or not
-  abbrev pub at : Bool → ℕ
-  at b = cond b (length q) n
-
-  pub le_at : (b : Bool) → nat_le (length q) (at b) ≡ b
+  pub le_at : (b : Bool) → nat_le (length q) (at q n b) ≡ b
   le_at true = le-leb (length q) (length q) (omega arith)
   le_at false = lt-leb (length q) n (omega (arith, long))
 
-  pub lt_at : (a b : Bool) → nat_lt (at a) (at b) ≡ (not a && b)
+  pub lt_at : (a b : Bool) → nat_lt (at q n a) (at q n b) ≡ (not a && b)
   lt_at true true = le-ltb (length q) (length q) (omega arith)
   lt_at true false = le-ltb (length q) n (omega (arith, long))
   lt_at false true = lt-ltb n (length q) (omega (arith, long))
   lt_at false false = le-ltb n n (omega arith)
 
-  pub max_at : (a b : Bool) → max (at a) (at b) ≡ at (a || b)
+  pub max_at : (a b : Bool) → max (at q n a) (at q n b) ≡ at q n (a || b)
   max_at true true = omega arith
   max_at true false = omega (arith, long)
   max_at false true = omega (arith, long)
   max_at false false = omega arith
 
-  pub min_whole : (a : Bool) → min (at a) (length q) ≡ at a
+  pub min_whole : (a : Bool) → min (at q n a) (length q) ≡ at q n a
   min_whole true = omega arith
   min_whole false = omega (arith, long)
 
-  pub min_at : (a b : Bool) → min (at a) (at b) ≡ at (a && b)
+  pub min_at : (a b : Bool) → min (at q n a) (at q n b) ≡ at q n (a && b)
   min_at true true = omega arith
   min_at true false = omega (arith, long)
   min_at false true = omega (arith, long)
   min_at false false = omega arith
 
-  pub below_whole : (a : Bool) → at a ≤ length q
+  pub below_whole : (a : Bool) → at q n a ≤ length q
   below_whole true = omega arith
   below_whole false = omega (arith, long)
 
-  pub above_n : (a : Bool) → n ≤ at a
+  pub above_n : (a : Bool) → n ≤ at q n a
   above_n true = omega (arith, long)
   above_n false = omega arith

@@ -11,21 +11,19 @@ use Rattle.schedule_model.specs.Client.{Core}
 use Rattle.schedule_model.specs.Written.{last_of}
 use Rattle.replica_model.specs.Path.{Path, Link}
 use Rattle.replica_model.specs.Message.{Message}
-use Rattle.replica_model.specs.Call as step
-use Rattle.replica_model.specs.Step.{step as step_of}
 use Rattle.group_model.specs.Enclave.{Tick}
 use Rattle.group_model.specs.Group.{Answered}
 use Rattle.group_model.specs.Run.{Enclaves, enclaves, empty_world}
 use Rattle.trace_model.specs.Trace.{Playing, playing, expanded, settled}
-use Rattle.drill_laws.proofs.Setting.{five, conf_of_five, all, four_of, whole, offer}
-use Rattle.drill_laws.proofs.Leads.{IsPlain, leads}
-use Rattle.drill_laws.proofs.Asking.{ticks}
-use Rattle.drill_laws.proofs.Worlds.{Goes, Room, room_before}
+use Rattle.drill_laws.proofs.Setting.{five, conf_of_five}
+use Rattle.drill_laws.proofs.Leads.{IsPlain, led_all, leads}
+use Rattle.drill_laws.proofs.Asking.{round_of, ticks}
+use Rattle.drill_laws.proofs.Worlds.{Goes, Room, restated}
 use Rattle.drill_laws.proofs.Events.{call_goes}
-use Rattle.drill_laws.proofs.Rounds.{begins, ticked, entry_fits, entry_ends, tick_fits, tick_ends}
-use Rattle.drill_laws.proofs.Simulated.{restated, simulated, Stands, long, own_term}
+use Rattle.drill_laws.proofs.Rounds.{begins, ticked, settles, entry_fits, entry_ends, tick_fits, tick_ends}
+use Rattle.drill_laws.proofs.Simulated.{simulated, Stands}
 use Rattle.drill_laws.proofs.Plays.{Plays, goes_last, settled_on}
-use Rattle.drill_laws.proofs.Exchanges.{enclave_of, agreed, Calm}
+use Rattle.drill_laws.proofs.Exchanges.{enclave_of, Calm}
 
 abbrev pub noop : LogEntry
 noop = record { term = 1; body = Noop }
@@ -52,20 +50,22 @@ module _ (link : Link) where
   elected_stands : Stands link 0 [] noop refl noop_plain None 10 12 [] [] few_steps few_sent elected.group begins
   elected_stands =
       record {
-        setup = record { limit = MOST_ROWS; first = conf_of_five };
-        begun = refl;
-        five_run = refl;
-        none_lost = refl;
-        none_saved = refl;
+        runs = record {
+          setup = record { limit = MOST_ROWS; first = conf_of_five };
+          begun = refl;
+          five_run = refl;
+          none_lost = refl;
+          none_saved = refl;
+          run_is = refl;
+          no_halt = refl;
+          all_hold = (tt, (tt, (tt, (tt, (tt, (tt, (tt, (tt, (tt, (tt, (tt, (tt, (tt, (tt, tt))))))))))))));
+          none_rolled = refl;
+        };
         mail = record { done = take 8 elected.group.messages; all = refl; numbers = refl };
         past_is = refl;
         sent_is = refl;
         answers_are = refl;
         cores_are = refl;
-        run_is = refl;
-        no_halt = refl;
-        all_hold = (tt, (tt, (tt, (tt, (tt, (tt, (tt, (tt, (tt, (tt, (tt, (tt, (tt, (tt, tt))))))))))))));
-        none_rolled = refl;
       }
 
   pub begin_plays : (rest : List Event) (Q : Playing Message Enclaves → Type 0) → ((t : Playing Message Enclaves) → Calm t.group (noop ∷ []) 34 32 [] [] → Plays link t rest Q)
@@ -78,8 +78,7 @@ module _ (link : Link) where
         tt,
         settled_on link 8 24 second (λ t. Plays link t rest Q)
             (goes_last (λ t. Goes (settled (enclaves link) 24 t) (λ u. Plays link u rest Q)) (settled (enclaves link) 8 second) refl
-            (simulated link 0 [] noop refl noop_plain None 10 12 [] [] few_steps few_sent (λ t. Plays link t rest Q) 24 begins entry_fits elected elected_stands
-            (λ u at. next u (subst (λ k. Stands link 0 [] noop refl noop_plain None 10 12 [] [] few_steps few_sent u.group k) entry_ends at)))),
+            (simulated link 0 [] noop refl noop_plain None 10 12 [] [] few_steps few_sent (λ t. Plays link t rest Q) 24 begins (settles 24 20) entry_fits entry_ends elected elected_stands next)),
       ),
     ),
   )
@@ -98,25 +97,16 @@ module _ (link : Link) (p : Path) (e : LogEntry) (own : e.term ≡ 1) (no_member
   room_after : Room (messages + 4 + 44) (answers ++ []) cores
   room_after = (omega (arith, few_messages), subst (λ (xs : List Answered). length xs ≤ 1000000) (sym (append-nil answers)) few_answers, few_cores)
 
-  settling : (t : Playing Message Enclaves) → Stands link 1 p e own no_members None (events + 1) (messages + 4) answers cores few_after room_after t.group ticked → Plays link t (event.Settle 8 ∷ rest) Q
-  settling t at = (
-    tt,
-    simulated link 1 p e own no_members None (events + 1) (messages + 4) answers cores few_after room_after (λ u. Plays link u rest Q) 8 ticked tick_fits t at
-        (λ u at'. next u (restated u.group [] [] (agreed q) (events + 1 + 8) (events + 9) (messages + 4 + 4) (messages + 8) (answers ++ []) answers cores refl (omega arith) (omega arith) (append-nil answers)
-        (subst (λ k. Stands link 1 p e own no_members None (events + 1) (messages + 4) answers cores few_after room_after u.group k) tick_ends at'))),
-  )
-
   pub tick_plays : Plays link pl (event.Tick 1 ∷ event.Settle 8 ∷ rest) Q
   tick_plays = (
     tt,
-    call_goes link pl (λ u. Plays link u (event.Settle 8 ∷ rest) Q) (agreed q) events messages answers cores (omega (arith, few_events))
-        (event.Tick 1) [] calm_at (room_before link pl.group (event.Tick 1) refl (omega (arith, few_events, calm_at.past_is))) 1 refl
-        Tick refl
-        (enclave_of 1 (leads link q (length p) (long link 1 p e own no_members None) no_members (own_term link 1 p e own no_members None) None true true (all true) (all true))) refl tt
-        (step_of link (leads link q (length p) (long link 1 p e own no_members None) no_members (own_term link 1 p e own no_members None) None true true (all true) (all true)) step.Tick) refl
-        (leads link q (length p) (long link 1 p e own no_members None) no_members (own_term link 1 p e own no_members None) None true true (all true) (all true))
-        (four_of (offer (whole link q) [] (length q) (length q))) []
-        (ticks link q (length p) (long link 1 p e own no_members None) no_members (own_term link 1 p e own no_members None) None)
+    call_goes link pl (λ u. Plays link u (event.Settle 8 ∷ rest) Q) calm_at (omega (arith, few_events)) (event.Tick 1) refl 1 refl Tick refl
+        (enclave_of 1 (leads link (round_of p e own no_members None) (led_all true))) refl tt
+        (ticks link (round_of p e own no_members None)) refl
         (omega (arith, few_messages), subst (λ (xs : List Answered). length xs ≤ 1000000) (sym (append-nil answers)) few_answers, few_cores)
-        (λ t at. settling t (restated t.group _ _ _ (events + 1) (events + 1 + 0) (messages + 4) (messages + 4 + 0) (answers ++ []) (answers ++ []) cores refl (omega arith) (omega arith) refl at)),
+        (λ t at. (
+          tt,
+          simulated link 1 p e own no_members None (events + 1) (messages + 4) answers cores few_after room_after (λ u. Plays link u rest Q) 8 ticked (settles 8 4) tick_fits tick_ends t
+              (restated at refl refl (omega arith) (omega arith) refl) (λ u at'. next u (restated at' refl refl (omega arith) (omega arith) (append-nil answers))),
+        )),
   )
