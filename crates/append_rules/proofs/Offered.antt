@@ -12,6 +12,7 @@ use Rattle.replica_model.specs.Call.{Call, says}
 use Rattle.replica_model.specs.Graft.{Offer, Difference, end_of, first_difference, points_of, refusal_hint, halts, following, grafted, accepts, answered, graft, conflict_or_graft, append_heard}
 use Rattle.replica_log.specs.Window.{Window}
 use Rattle.replica_log.specs.Models.{StandsFor, IsNoConflict, IsConflict, IsRefused, IsGrafted, with_graft}
+use Rattle.append_rules.specs.declared.take.Taken.TheVariants.{Replied, Conflict}
 use Rattle.append_rules.specs.Taken.{TakesOffer, unless_refused, cut_at}
 
 -- ---- the model's call in each of the three cases
@@ -53,7 +54,7 @@ module _ (s : Replica) (o : Offer) where
   -- ---- the answer in each case
 
   pub takes_conflict : (d : Difference) (w : Window) → IsConflict sha_link s o d → StandsFor sha_link w s
-      → TakesOffer s o w (record { reply = None; cut = None; halt = Some d })
+      → TakesOffer s o w (Conflict d.0 d.1 d.2)
   takes_conflict d w is stands =
       let e = conflict_call d is in
       record {
@@ -64,7 +65,7 @@ module _ (s : Replica) (o : Offer) where
       }
 
   pub takes_refused : (hint term : ℕ) (prev : Point) (w : Window) → IsRefused sha_link s o hint → s.term ≡ term → o.prev ≡ prev → StandsFor sha_link w s
-      → TakesOffer s o w (record { reply = Some (Rejected term prev.index hint); cut = None; halt = None })
+      → TakesOffer s o w (Replied (Rejected term prev.index hint) None)
   takes_refused hint term prev w is term_is prev_is stands =
       let e = refused_call hint is in
       let to : PeerMsg → List (ℕ × Message) = λ msg. (o.from, plain msg) ∷ [] in
@@ -81,7 +82,7 @@ module _ (s : Replica) (o : Offer) where
         committed = max s.committed (min o.commit (min o.promise (end_of o)));
       })
       → promised ≡ max s.promised (min o.promise (end_of o))
-      → TakesOffer s o u (record { reply = Some (Accepted term end (min promised (end_of o))); cut = cut; halt = None })
+      → TakesOffer s o u (Replied (Accepted term end (min promised (end_of o))) cut)
   takes_grafted end cut term promised w u is term_is stands promised_is =
       let e = grafted_call cut is.found is.no_conflict is.taken in
       let to : PeerMsg → List (ℕ × Message) = λ msg. (o.from, plain msg) ∷ [] in

@@ -13,7 +13,8 @@ use Rattle.replica_log.specs.declared.graft.Graft.TheVariants.{Grafted, Apart, C
 use Rattle.replica_log.specs.Window.{Window, promised_to, committed_to}
 use Rattle.replica_log.specs.Grafting.{graft_of, after_graft}
 use Rattle.replica_log.specs.Models.{StandsFor}
-use Rattle.append_rules.specs.declared.take.Took.{Took}
+use Rattle.append_rules.specs.declared.take.Taken.{Taken}
+use Rattle.append_rules.specs.declared.take.Taken.TheVariants as taken
 
 -- promised and committed rise up to the last index that was offered
 abbrev pub raised : Window → ℕ → ℕ → ℕ → Window
@@ -30,15 +31,29 @@ abbrev pub after_offer : Window → Point → Path → ℕ → ℕ → Window
 after_offer w prev entries promise commit = after_by w prev entries promise commit (graft_of sha_link w prev entries)
 
 -- the answer: a graft is accepted up to its end, what stands apart is rejected with its hint, and a conflict halts
-abbrev pub took_by : Window → ℕ → Point → ℕ → Graft → Took
-took_by w term prev promise (Grafted end cut) =
-    record { reply = Some (Accepted term end (min (max w.promised (min promise end.index)) end.index)); cut = cut; halt = None }
-took_by w term prev promise (Apart hint) = record { reply = Some (Rejected term prev.index hint); cut = None; halt = None }
-took_by w term prev promise (Conflict index kept offered) = record { reply = None; cut = None; halt = Some (index, kept, offered) }
+abbrev pub taken_by : Window → ℕ → Point → ℕ → Graft → Taken
+taken_by w term prev promise (Grafted end cut) = taken.Replied (Accepted term end (min (max w.promised (min promise end.index)) end.index)) cut
+taken_by w term prev promise (Apart hint) = taken.Replied (Rejected term prev.index hint) None
+taken_by w term prev promise (Conflict index kept offered) = taken.Conflict index kept offered
 
 -- the answer to an append
-abbrev pub took_of : Window → ℕ → Point → Path → ℕ → Took
-took_of w term prev entries promise = took_by w term prev promise (graft_of sha_link w prev entries)
+abbrev pub taken_of : Window → ℕ → Point → Path → ℕ → Taken
+taken_of w term prev entries promise = taken_by w term prev promise (graft_of sha_link w prev entries)
+
+-- the reply, if there is one
+abbrev pub reply_of : Taken → Option PeerMsg
+reply_of (taken.Replied reply cut) = Some reply
+reply_of (taken.Conflict index kept offered) = None
+
+-- where the log was cut
+abbrev pub cut_of : Taken → Option Difference
+cut_of (taken.Replied reply cut) = cut
+cut_of (taken.Conflict index kept offered) = None
+
+-- what the replica halts with
+abbrev pub halt_of : Taken → Option Difference
+halt_of (taken.Replied reply cut) = None
+halt_of (taken.Conflict index kept offered) = Some (index, kept, offered)
 
 -- the replica's term, and the offer's parts
 pub record HasTerms (s : Replica) (o : Offer) (term : ℕ) (prev : Point) (entries : Path) (promise commit : ℕ) : Type 0 where
@@ -64,8 +79,8 @@ cut_at s None o = None
 cut_at s (Some d) o = cond (nat_le d.0 s.promised) None (unless_refused (refusal_hint s (Some d) o) d)
 
 -- the answer is that of the model's call, the log stands for the replica after it, and it was cut where the model's is
-pub record TakesOffer (s : Replica) (o : Offer) (w : Window) (took : Took) : Type 0 where
+pub record TakesOffer (s : Replica) (o : Offer) (w : Window) (t : Taken) : Type 0 where
   pub stands : StandsFor sha_link w (append_heard sha_link s o).state
-  pub halts : (append_heard sha_link s o).batch.halt ≡ took.halt
-  pub replies : (append_heard sha_link s o).sent ≡ sent_to o.from took.reply
-  pub cuts : took.cut ≡ cut_at s (first_difference sha_link s (points_of sha_link o)) o
+  pub halts : (append_heard sha_link s o).batch.halt ≡ halt_of t
+  pub replies : (append_heard sha_link s o).sent ≡ sent_to o.from (reply_of t)
+  pub cuts : cut_of t ≡ cut_at s (first_difference sha_link s (points_of sha_link o)) o

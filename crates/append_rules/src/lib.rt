@@ -13,4 +13,4 @@ mod tests;
 pub use heard::{take_accepted, take_rejected};
 pub use make::make_append;
 pub use replica_model::Progress;
-pub use take::{Took, take_append};
+pub use take::{Taken, take_append};

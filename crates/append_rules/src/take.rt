@@ -6,20 +6,30 @@ ghost use Rattle.replica_model.specs.Linked.{sha_link};
 ghost use Rattle.replica_model.specs.Graft.{Offer};
 ghost use Rattle.replica_log.specs.Window.{Fits};
 ghost use Rattle.replica_log.specs.Models.{OfEach};
-ghost use Rattle.append_rules.specs.Taken.{took_of, after_offer, TakesOffer, HasTerms};
+ghost use Rattle.append_rules.specs.Taken.{taken_of, after_offer, TakesOffer, HasTerms};
 
 use replica_log::{Graft, Log};
 use values::{Hash, LogEntry, Memory, PeerMsg, Point};
 
-/// What came of an append.
-#[derive(Debug, Drop)]
-pub struct Took {
-    /// The reply to the leader; none of one that halts.
-    pub reply: Option<PeerMsg>,
-    /// The first index whose entry was replaced, with the hash there before and after.
-    pub cut: Option<(u64, Hash, Hash)>,
-    /// The first index that differs from what is promised, with the hash there and the one offered: it halts.
-    pub halt: Option<(u64, Hash, Hash)>,
+/// What comes of an append.
+#[derive(Debug, Drop, PartialEq, Eq)]
+pub enum Taken {
+    /// It is answered: as accepted, or as rejected where it does not join the log.
+    Replied {
+        /// The reply to the leader.
+        reply: PeerMsg,
+        /// The first index whose entry was replaced, with the hash there before and after.
+        cut: Option<(u64, Hash, Hash)>,
+    },
+    /// It differs from what is promised, and the replica halts. Nothing has changed.
+    Conflict {
+        /// The first index that differs.
+        index: u64,
+        /// The hash there.
+        kept: Hash,
+        /// The hash that is offered.
+        offered: Hash,
+    },
 }
 
 /// Takes an append of the replica's own term: the entries after a point, with the leader's promised and committed
@@ -32,11 +42,11 @@ pub fn take_append(
     entries: &[LogEntry],
     promise: u64,
     commit: u64,
-) -> Result<Took, Memory>
+) -> Result<Taken, Memory>
     requires top { prev.index + length entries.now ≤ TOP }
     requires fit { AllByRecursion Fits entries.now }
-    ensures took { IfOk result (λ took. took ≡ took_of log.old term prev entries.now promise) }
-    ensures after { IfOk result (λ took. log.new ≡ after_offer log.old prev entries.now promise commit) }
+    ensures taken { IfOk result (λ taken. taken ≡ taken_of log.old term prev entries.now promise) }
+    ensures after { IfOk result (λ taken. log.new ≡ after_offer log.old prev entries.now promise commit) }
     ensures err { OnErr result (log.new ≡ log.old) }
     ensures model { OfEach sha_link log.old (λ s. (o : Offer) → HasTerms s o term prev entries.now promise commit
         → IfOk result (TakesOffer s o log.new)) }
@@ -52,11 +62,7 @@ pub fn take_append(
                 end,
                 promised,
             };
-            Ok(Took {
-                reply: Some(reply),
-                cut,
-                halt: None,
-            })
+            Ok(Taken::Replied { reply, cut })
         }
         Graft::Apart { hint } => {
             let reply = PeerMsg::Rejected {
@@ -64,20 +70,16 @@ pub fn take_append(
                 asked: prev.index,
                 hint,
             };
-            Ok(Took {
-                reply: Some(reply),
-                cut: None,
-                halt: None,
-            })
+            Ok(Taken::Replied { reply, cut: None })
         }
         Graft::Conflict {
             index,
             kept,
             offered,
-        } => Ok(Took {
-            reply: None,
-            cut: None,
-            halt: Some((index, kept, offered)),
+        } => Ok(Taken::Conflict {
+            index,
+            kept,
+            offered,
         }),
     }
 }

@@ -2,7 +2,7 @@
 ghost use Rattle.std.specs.Prelude.{◌≡◌, IfOk};
 ghost use Rattle.replica_log.specs.Window.{Fits, last_index};
 
-use crate::{Progress, make_append, take_accepted, take_append, take_rejected};
+use crate::{Progress, Taken, make_append, take_accepted, take_append, take_rejected};
 use group_quorum::Config;
 use replica_log::Log;
 use std::alloc::Global;
@@ -34,14 +34,13 @@ fn three_entries(alloc: Global) -> Result<Log, Fail>
 fn promise_and_commit_rise_to_what_was_offered(rt: HostRuntime) -> Result<(), Fail> {
     let mut log = three_entries(rt.alloc())?;
     let end = log.last();
-    let took = take_append(&mut log, 2, end, &[], 9, 9)?;
+    let taken = take_append(&mut log, 2, end, &[], 9, 9)?;
     let reply = PeerMsg::Accepted {
         term: 2,
         end,
         promised: 3,
     };
-    assert_eq!(rt; took.reply, Some(reply));
-    assert!(rt; took.cut.is_none() && took.halt.is_none());
+    assert_eq!(rt; taken, Taken::Replied { reply, cut: None });
     assert_eq!(rt; log.promised(), 3);
     assert_eq!(rt; log.committed(), 3);
     Ok(())
@@ -51,17 +50,20 @@ fn promise_and_commit_rise_to_what_was_offered(rt: HostRuntime) -> Result<(), Fa
 fn what_differs_is_refused_or_halts(rt: HostRuntime) -> Result<(), Fail> {
     let mut log = three_entries(rt.alloc())?;
     let hash = Hash([7; 32]);
-    let took = take_append(&mut log, 3, Point { index: 3, hash }, &[], 0, 0)?;
+    let taken = take_append(&mut log, 3, Point { index: 3, hash }, &[], 0, 0)?;
     let reply = PeerMsg::Rejected {
         term: 3,
         asked: 3,
         hint: 1,
     };
-    assert_eq!(rt; took.reply, Some(reply));
-    let took = take_append(&mut log, 3, Point { index: 1, hash }, &[], 0, 0)?;
-    assert_eq!(rt; took.reply, None);
-    let kept = log.hash_at(1).ok_or("kept")?;
-    assert_eq!(rt; took.halt, Some((1, kept, hash)));
+    assert_eq!(rt; taken, Taken::Replied { reply, cut: None });
+    let taken = take_append(&mut log, 3, Point { index: 1, hash }, &[], 0, 0)?;
+    let conflict = Taken::Conflict {
+        index: 1,
+        kept: log.hash_at(1).ok_or("kept")?,
+        offered: hash,
+    };
+    assert_eq!(rt; taken, conflict);
     Ok(())
 }
 

@@ -25,10 +25,10 @@ pub struct Turn {
     pub wake: bool,
 }
 
-/// What came of a turn.
+/// What a turn came to.
 #[derive(Clone, Copy, Debug, PartialEq, Eq)]
 pub enum Seen {
-    /// No answer.
+    /// No answer came.
     Silence,
     /// An outcome that did not end the want.
     Progress,

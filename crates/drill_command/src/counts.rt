@@ -24,7 +24,7 @@ fn one_more(count: u64) -> u64
 }
 
 impl Counts {
-    /// Nothing was counted.
+    /// Counts that start at 0.
     pub fn new() -> Counts
         ensures { result ≡ nothing_counted }
     {

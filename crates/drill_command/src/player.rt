@@ -65,7 +65,7 @@ impl Player {
         Ok(())
     }
 
-    /// Delivers at most so many messages: the next one each time, as long as there is one.
+    /// Delivers messages up to this number: each time the next one, as long as there is one.
     fn settle(&mut self, alloc: Global, most: u32) -> Result<(), Memory>
         requires { IsLive self.old }
         ensures goes { OnOk result (Goes self.old self.new (settled (model_of OfEnclaves) most)) }

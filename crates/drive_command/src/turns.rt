@@ -57,7 +57,7 @@ impl DrivePlayer {
         self.group.play_event(event, lines)
     }
 
-    /// Delivers at most so many messages.
+    /// Delivers messages up to this number.
     pub(crate) fn settle(&mut self, most: u32, lines: &mut Vec<u8>) -> Result<(), Stop<Halt>>
         requires live { IsLive self.old }
         ensures writes { Writes (λ d. drives field d (event.Settle most)) self.old self.new lines.old.items lines.new.items result }

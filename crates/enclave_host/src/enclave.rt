@@ -31,9 +31,9 @@ pub struct Enclave {
 pub enum EnclaveFault {
     /// Memory ran out. An enclave that was called is spent.
     Memory,
-    /// The enclave is spent: an earlier call wanted memory.
+    /// The enclave is spent: memory ran out in an earlier call.
     Spent,
-    /// The content says nothing, and this is why; want of memory is no such reason.
+    /// The content says nothing, and this is why; memory that ran out is no such reason.
     Frame(HostFault),
     /// The content starts no enclave.
     NotBegun,

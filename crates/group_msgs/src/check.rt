@@ -10,6 +10,7 @@ ghost use Rattle.group_msgs.specs.Rules as rules;
 
 use crate::fault::PeerFault;
 use crate::gather::Member;
+use crate::numbers::{kinds, members};
 use crate::scalars::Scalars;
 use crate::voters::{are_rising, are_voters_long, ids_in};
 use client_msgs::is_canonical_request;
@@ -24,17 +25,17 @@ pub(crate) fn check_ranges(term: u64, member: &Member<'_>) -> Result<(), PeerFau
     at_most(1, TOP, term)?;
     let scalars = &member.scalars;
     match member.number {
-        2 | 6 => {
+        members::ASK_VOTE | members::REJECTED => {
             check_index(1, scalars)?;
             check_index(2, scalars)
         }
-        3 => Ok(()),
-        4 => check_append(member),
-        5 => {
+        members::VOTE => Ok(()),
+        members::APPEND => check_append(member),
+        members::ACCEPTED => {
             check_point(scalars)?;
             check_index(3, scalars)
         }
-        7 => check_part(member),
+        members::PART => check_part(member),
         _ => check_point(scalars),
     }
 }
@@ -83,7 +84,7 @@ pub(crate) fn check_next(
 {
     so_far?;
     match member {
-        4 => check_entry(place, item),
+        members::APPEND => check_entry(place, item),
         _ => check_row(item),
     }
 }
@@ -93,9 +94,9 @@ fn check_entry(place: u64, entry: &Scalars<'_>) -> Result<(), PeerFault>
 {
     check_index(1, entry)?;
     match entry.u32_at(2) {
-        0 => Ok(()),
-        1 => check_ask(place, entry),
-        2 => check_members(entry),
+        kinds::NOOP => Ok(()),
+        kinds::ASK => check_ask(place, entry),
+        kinds::MEMBERS => check_members(entry),
         _ => Err(PeerFault::Range(2)),
     }
 }

@@ -12,6 +12,7 @@ ghost use Rattle.group_msgs.specs.Reading as reading;
 ghost use Rattle.group_msgs.specs.Gathered.{IsRun, IsLast};
 
 use crate::listed::Listed;
+use crate::numbers::members;
 use crate::scalars::Scalars;
 use proto_wire::{Payload, WireFault, WireField, next_field};
 use std::alloc::Global;
@@ -119,7 +120,9 @@ fn term_behind(term: u64, field: &WireField<'_>) -> u64
 fn is_member(field: &WireField<'_>) -> bool
     ensures { result ≡ wire.is_member 2 8 (field_of field.now) }
 {
-    2 <= field.number && field.number <= 8 && matches!(field.payload, Payload::Block(_))
+    members::ASK_VOTE <= field.number
+        && field.number <= members::PART_TAKEN
+        && matches!(field.payload, Payload::Block(_))
 }
 
 /// Whether a field of this member is one of the messages that it lists.
@@ -127,8 +130,8 @@ fn is_listed(member: u64, field: &WireField<'_>) -> bool
     ensures { result ≡ reading.is_listed member (field_of field.now) }
 {
     let list = match member {
-        4 => 3,
-        7 => 10,
+        members::APPEND => 3,
+        members::PART => 10,
         _ => return false,
     };
     field.number == list && matches!(field.payload, Payload::Block(_))

@@ -22,6 +22,7 @@ mod fault;
 mod gather;
 mod laws;
 mod listed;
+mod numbers;
 mod read;
 mod scalars;
 mod voters;

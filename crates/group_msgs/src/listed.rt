@@ -23,12 +23,12 @@ pub(crate) struct Listed<'a> {
     /// The first rule that one of them breaks.
     pub checked: Result<(), PeerFault>,
     pub first: Vec<Scalars<'a>>,
-    /// Whether memory for them was wanted.
+    /// Whether memory for them ran out.
     pub lost: bool,
 }
 
 impl<'a> Listed<'a> {
-    /// No message yet.
+    /// An empty list.
     pub(crate) fn new(alloc: Global) -> Listed<'a>
         ensures { (member : ℕ) → IsList member result [] }
     {

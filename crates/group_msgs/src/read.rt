@@ -14,6 +14,7 @@ ghost use Rattle.group_msgs.specs.Ranges.{IsInRange};
 use crate::check::check_ranges;
 use crate::fault::PeerFault;
 use crate::gather::{Member, gather};
+use crate::numbers::{kinds, members};
 use crate::scalars::Scalars;
 use crate::voters::ids_in;
 use group_quorum::MAX_VOTERS;
@@ -64,33 +65,33 @@ fn message(alloc: Global, term: u64, member: &Member<'_>) -> Result<PeerMsg, Mem
     let scalars = &member.scalars;
     let listed = member.listed.first.as_slice();
     Ok(match member.number {
-        2 => PeerMsg::AskVote {
+        members::ASK_VOTE => PeerMsg::AskVote {
             term,
             last_index: scalars.u64_at(1),
             last_term: scalars.u64_at(2),
         },
-        3 => PeerMsg::Vote {
+        members::VOTE => PeerMsg::Vote {
             term,
             granted: scalars.bool_at(1),
         },
-        4 => PeerMsg::Append {
+        members::APPEND => PeerMsg::Append {
             term,
             prev: point(scalars),
             entries: entries(alloc, listed)?,
             promise: scalars.u64_at(4),
             commit: scalars.u64_at(5),
         },
-        5 => PeerMsg::Accepted {
+        members::ACCEPTED => PeerMsg::Accepted {
             term,
             end: point(scalars),
             promised: scalars.u64_at(3),
         },
-        6 => PeerMsg::Rejected {
+        members::REJECTED => PeerMsg::Rejected {
             term,
             asked: scalars.u64_at(1),
             hint: scalars.u64_at(2),
         },
-        7 => PeerMsg::Part {
+        members::PART => PeerMsg::Part {
             term,
             part: part(alloc, scalars, listed)?,
         },
@@ -146,8 +147,8 @@ fn body(alloc: Global, scalars: &Scalars<'_>) -> Result<Body, Memory>
     ensures { IfOk result (λ body. body ≡ values.body_of (seen scalars.now)) }
 {
     Ok(match scalars.u32_at(2) {
-        0 => Body::Noop,
-        1 => Body::Ask {
+        kinds::NOOP => Body::Noop,
+        kinds::ASK => Body::Ask {
             client: ClientId(array(scalars.bytes_at(3))),
             number: scalars.u64_at(4),
             request: Bytes::from_slice(alloc, scalars.bytes_at(5))?,

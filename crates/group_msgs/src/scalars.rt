@@ -12,7 +12,7 @@ const VARINTS: usize = 10;
 /// The bytes of known messages have numbers below this.
 const BLOCKS: usize = 7;
 
-/// Of each number the last varint and the last block, and the default where none stands.
+/// The last varint and the last block of each number, or the default where there is none.
 #[derive(Clone, Copy)]
 pub(crate) struct Scalars<'a> {
     varints: [u64; VARINTS],
@@ -20,7 +20,7 @@ pub(crate) struct Scalars<'a> {
 }
 
 impl<'a> Scalars<'a> {
-    /// Of no field.
+    /// Those before any field: all defaults.
     pub(crate) fn empty() -> Scalars<'a>
         ensures { seen result ≡ known_of [] }
     {

@@ -8,6 +8,7 @@ ghost use Rattle.group_msgs.specs.Peer.{peer_of};
 ghost use Rattle.group_msgs.specs.Ranges.{IsInRange, IsEntryInRange, IsHash, FitsBody, FitsRow, FitsPart, FitsPeer};
 
 use crate::laws::messages_are_read_again;
+use crate::numbers::{kinds, members};
 use byteorder::{BigEndian, ByteOrder};
 use group_quorum::MAX_VOTERS;
 use proto_wire::FieldWriter;
@@ -44,7 +45,7 @@ fn peer_bytes(alloc: Global, msg: &PeerMsg) -> Result<Vec<u8>, proto_wire::Memor
     let member = fields.finish();
     let mut message = FieldWriter::with_capacity(alloc, member.len() + 32)?;
     message.varint(1, term_of(msg))?;
-    message.message(member_number(msg), &member)?;
+    message.message(member_number(msg) as u32, &member)?;
     Ok(message.finish())
 }
 
@@ -62,17 +63,18 @@ fn term_of(msg: &PeerMsg) -> u64
     }
 }
 
-fn member_number(msg: &PeerMsg) -> u32
-    ensures { result ≡ canonical.member_number msg.now }
+fn member_number(msg: &PeerMsg) -> u64
+    ensures number { result ≡ canonical.member_number msg.now }
+    ensures most { result ≤ 8 }
 {
     match msg {
-        PeerMsg::AskVote { .. } => 2,
-        PeerMsg::Vote { .. } => 3,
-        PeerMsg::Append { .. } => 4,
-        PeerMsg::Accepted { .. } => 5,
-        PeerMsg::Rejected { .. } => 6,
-        PeerMsg::Part { .. } => 7,
-        PeerMsg::PartTaken { .. } => 8,
+        PeerMsg::AskVote { .. } => members::ASK_VOTE,
+        PeerMsg::Vote { .. } => members::VOTE,
+        PeerMsg::Append { .. } => members::APPEND,
+        PeerMsg::Accepted { .. } => members::ACCEPTED,
+        PeerMsg::Rejected { .. } => members::REJECTED,
+        PeerMsg::Part { .. } => members::PART,
+        PeerMsg::PartTaken { .. } => members::PART_TAKEN,
     }
 }
 
@@ -207,13 +209,13 @@ fn put_entry(fields: &mut FieldWriter, entry: &LogEntry) -> Result<(), proto_wir
             number,
             request,
         } => {
-            fields.varint(2, 1)?;
+            fields.varint(2, u64::from(kinds::ASK))?;
             fields.block(3, &client.0)?;
             fields.varint(4, *number)?;
             fields.block(5, request.as_slice())
         }
         Body::Members { margin, voters } => {
-            fields.varint(2, 2)?;
+            fields.varint(2, u64::from(kinds::MEMBERS))?;
             put_voters(fields, voters.as_slice())?;
             fields.varint(7, u64::from(*margin))
         }

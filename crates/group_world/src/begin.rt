@@ -179,8 +179,8 @@ impl World {
         Ok(())
     }
 
-    /// A learner starts, linked with every replica that runs, and each of them is linked with it. An id starts once;
-    /// 0 starts nothing.
+    /// A learner starts, linked with every replica that runs, and each of them is linked with it. An id starts once,
+    /// and 0 is no id of a replica.
     pub(crate) fn start<F: Field>(
         &mut self,
         alloc: Global,

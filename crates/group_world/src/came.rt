@@ -14,7 +14,7 @@ pub(crate) enum Came {
     Replied(ReplicaId, Batch),
     /// A client reports what became of its want.
     Reported(ClientId, Report),
-    /// Nothing that is told.
+    /// It was played, and there is nothing to tell.
     Passed,
 }
 

@@ -26,7 +26,7 @@ impl Model for Clients {
 }
 
 impl Clients {
-    /// No client.
+    /// An empty map.
     pub fn new(alloc: Global) -> Clients
         ensures { result ≡ [] }
     {

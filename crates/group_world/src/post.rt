@@ -60,7 +60,7 @@ impl Model for Post {
 }
 
 impl Post {
-    /// No letter.
+    /// A post without letters.
     pub fn new(alloc: Global) -> Post
         ensures { result ≡ [] }
     {

@@ -36,7 +36,7 @@ pub enum Which {
 pub enum Played {
     /// The source was read to its end, and the whole trace was written.
     Done,
-    /// Want of memory.
+    /// Memory ran out.
     Memory,
     /// The record of this number, from 1, means nothing for this cause, at this field; 0 is the record as a whole.
     Schedule {

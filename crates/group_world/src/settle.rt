@@ -12,7 +12,7 @@ use record_stream::Stop;
 use values::Event;
 
 impl<F: Field> GroupPlayer<F> {
-    /// Delivers at most so many messages: the next one each time, as long as there is one.
+    /// Delivers messages up to this number: each time the next one, as long as there is one.
     pub fn settle(&mut self, most: u32, lines: &mut Vec<u8>) -> Result<(), Stop<Halt>>
         requires can { CanPlay self.old.world (F.map self.old.field) }
         ensures writes { (given : List Given) × Gains (F.answers self.old.field) (F.answers self.new.field) (contents_in given)

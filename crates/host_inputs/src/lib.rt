@@ -18,6 +18,7 @@
 
 mod fields;
 mod input;
+mod kinds;
 mod laws;
 mod lists;
 mod read;

@@ -98,7 +98,7 @@ fn keys(alloc: Global, set: &BTreeSet<u32>) -> Result<Vec<u32>, Memory>
     Ok(ids)
 }
 
-/// Ids that rise.
+/// A copy of ids, which stand in strictly rising order.
 fn rising_ids(alloc: Global, ids: &[u32]) -> Result<Ids, Memory>
     requires { Rising ids.now }
     ensures { IfOk result (λ found. found ≡ ids.now) }

@@ -8,6 +8,7 @@ ghost use Rattle.host_inputs.specs.Reading.{ReadsHost, if_parts, parts_in, bare_
 
 use crate::fields::{client_fields, margin_field, number_field};
 use crate::input::{HostFault, HostIn};
+use crate::kinds;
 use crate::lists::{begin, learn};
 use fixed_fields::end;
 use group_quorum::{ConfigFault, MAX_ID, MAX_MARGIN};
@@ -41,9 +42,9 @@ fn read(alloc: Global, content: &[u8]) -> Result<HostIn<'_>, HostFault>
         return Err(HostFault::Kind(0));
     };
     match *kind {
-        1 => begin(alloc, content.len(), rest),
-        2 => learn(alloc, content.len(), rest),
-        3..=12 => other(*kind, content.len(), rest),
+        kinds::BEGIN => begin(alloc, content.len(), rest),
+        kinds::LEARN => learn(alloc, content.len(), rest),
+        kinds::TICK..=kinds::MARGIN => other(*kind, content.len(), rest),
         _ => Err(HostFault::Kind(*kind)),
     }
 }
@@ -57,11 +58,11 @@ fn other(kind: u8, size: usize, rest: &[u8]) -> Result<HostIn<'_>, HostFault>
     ensures sound { IfOk result (λ input. IsSoundInput (input_of input)) }
 {
     match kind {
-        3 => tick(size, rest),
-        4 => Ok(HostIn::Peer { frame: rest }),
-        5 => client(size, rest),
-        9 => save(size, rest),
-        12 => margin(size, rest),
+        kinds::TICK => tick(size, rest),
+        kinds::PEER => Ok(HostIn::Peer { frame: rest }),
+        kinds::CLIENT => client(size, rest),
+        kinds::SAVE => save(size, rest),
+        kinds::MARGIN => margin(size, rest),
         _ => numbered(kind, size, rest),
     }
 }
@@ -119,16 +120,16 @@ fn numbered(kind: u8, size: usize, rest: &[u8]) -> Result<HostIn<'_>, HostFault>
     let Some(number) = number_field(rest) else {
         return Err(HostFault::Length(size as u64));
     };
-    if kind == 10 {
+    if kind == kinds::ROLL {
         return Ok(HostIn::Roll { k: number });
     }
     if number == 0 || number > MAX_ID {
         return Err(HostFault::BadId(number));
     }
     Ok(match kind {
-        6 => HostIn::Join { id: number },
-        7 => HostIn::Admit { id: number },
-        8 => HostIn::Remove { id: number },
+        kinds::JOIN => HostIn::Join { id: number },
+        kinds::ADMIT => HostIn::Admit { id: number },
+        kinds::REMOVE => HostIn::Remove { id: number },
         _ => HostIn::Link { id: number },
     })
 }

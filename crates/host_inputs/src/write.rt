@@ -7,6 +7,7 @@ ghost use Rattle.std.specs.Int.{w8, w32};
 ghost use Rattle.host_inputs.specs.Inputs.{begin_fields, learn_fields, client_fields, input_of, input_bytes, listed_in};
 
 use crate::input::HostIn;
+use crate::kinds;
 use fixed_fields::Writer;
 use std::alloc::{AllocError, Global};
 use values::{Bytes, Memory};
@@ -45,19 +46,19 @@ fn push_input(out: &mut Writer, input: &HostIn<'_>) -> Result<(), AllocError>
             voters,
         } => push_begin(out, *id, *margin, *limit, voters.as_slice()),
         HostIn::Learn { id, linked } => push_learn(out, *id, linked.as_slice()),
-        HostIn::Tick => out.bytes(&[3]),
-        HostIn::Peer { frame } => push_after(out, 4, frame),
+        HostIn::Tick => out.bytes(&[kinds::TICK]),
+        HostIn::Peer { frame } => push_after(out, kinds::PEER, frame),
         HostIn::Client {
             client,
             number,
             request,
         } => push_client(out, &client.0, *number, request),
-        HostIn::Join { id } => push_numbered(out, 6, *id),
-        HostIn::Admit { id } => push_numbered(out, 7, *id),
-        HostIn::Remove { id } => push_numbered(out, 8, *id),
-        HostIn::Save => out.bytes(&[9]),
-        HostIn::Roll { k } => push_numbered(out, 10, *k),
-        HostIn::Link { id } => push_numbered(out, 11, *id),
+        HostIn::Join { id } => push_numbered(out, kinds::JOIN, *id),
+        HostIn::Admit { id } => push_numbered(out, kinds::ADMIT, *id),
+        HostIn::Remove { id } => push_numbered(out, kinds::REMOVE, *id),
+        HostIn::Save => out.bytes(&[kinds::SAVE]),
+        HostIn::Roll { k } => push_numbered(out, kinds::ROLL, *k),
+        HostIn::Link { id } => push_numbered(out, kinds::LINK, *id),
         HostIn::Margin { margin } => push_margin(out, *margin),
     }
 }
@@ -73,7 +74,7 @@ fn push_begin(
     ensures { Puts result out.old out.new
         (1 ∷ begin_fields.spelled (id, (margin, (limit, voters.now)))) }
 {
-    out.bytes(&[1])?;
+    out.bytes(&[kinds::BEGIN])?;
     out.u32(id)?;
     out.u8(margin)?;
     out.u32(limit)?;
@@ -84,7 +85,7 @@ fn push_learn(out: &mut Writer, id: u32, linked: &[u32]) -> Result<(), AllocErro
     requires { length linked.now < 256 }
     ensures { Puts result out.old out.new (2 ∷ learn_fields.spelled (id, linked.now)) }
 {
-    out.bytes(&[2])?;
+    out.bytes(&[kinds::LEARN])?;
     out.u32(id)?;
     out.counted(linked)
 }
@@ -98,7 +99,7 @@ fn push_client(
     ensures { Puts result out.old out.new
         (5 ∷ client_fields.spelled (client.now, (number, request.now))) }
 {
-    out.bytes(&[5])?;
+    out.bytes(&[kinds::CLIENT])?;
     out.bytes(client)?;
     out.u64(number)?;
     out.bytes(request)
@@ -121,6 +122,6 @@ fn push_numbered(out: &mut Writer, kind: u8, number: u32) -> Result<(), AllocErr
 fn push_margin(out: &mut Writer, margin: u8) -> Result<(), AllocError>
     ensures { Puts result out.old out.new (12 ∷ number_bytes w8 margin) }
 {
-    out.bytes(&[12])?;
+    out.bytes(&[kinds::MARGIN])?;
     out.u8(margin)
 }

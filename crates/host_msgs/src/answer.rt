@@ -7,6 +7,7 @@ ghost use Rattle.host_msgs.specs.Reading.{Finds};
 ghost use Rattle.host_msgs.specs.Wrapped.{response_in};
 
 use crate::item::Item;
+use crate::kinds;
 use client_msgs::{ResponseFault, read_response};
 use fixed_fields::{array_at, end, u8_at, u32_at, u64_at};
 use group_quorum::MAX_ID;
@@ -40,13 +41,13 @@ fn answer_of(alloc: Global, kind: u8, bytes: &[u8]) -> Result<Option<Answer>, Me
     ensures { Finds result (answer_of kind bytes.now) }
 {
     match kind {
-        0 => outcome(alloc, bytes),
-        1 => Ok(not_leader(bytes)),
-        2 => Ok(whole_u64(bytes).map(Answer::Busy)),
-        3 => Ok(undecided(bytes)),
-        4 => Ok(whole_u64(bytes).map(Answer::Malformed)),
-        5 => Ok(invalid(bytes)),
-        6 => Ok(
+        kinds::answer::OUTCOME => outcome(alloc, bytes),
+        kinds::answer::NOT_LEADER => Ok(not_leader(bytes)),
+        kinds::answer::BUSY => Ok(whole_u64(bytes).map(Answer::Busy)),
+        kinds::answer::UNDECIDED => Ok(undecided(bytes)),
+        kinds::answer::MALFORMED => Ok(whole_u64(bytes).map(Answer::Malformed)),
+        kinds::answer::INVALID => Ok(invalid(bytes)),
+        kinds::answer::HALTED => Ok(
             whole_u64(bytes)
                 .filter(|index| *index <= TOP)
                 .map(Answer::Halted),
@@ -84,9 +85,9 @@ fn reply(alloc: Global, kind: u8, bytes: &[u8]) -> Result<Option<Reply>, Memory>
     ensures { Finds result (reply_in kind bytes.now) }
 {
     match kind {
-        0 => Ok(response(alloc, bytes)?.map(Reply::Applied)),
-        1 => Ok(whole_u64(bytes).map(Reply::Stale)),
-        2 => Ok(whole_u32(bytes).map(Reply::TableFull)),
+        kinds::reply::APPLIED => Ok(response(alloc, bytes)?.map(Reply::Applied)),
+        kinds::reply::STALE => Ok(whole_u64(bytes).map(Reply::Stale)),
+        kinds::reply::TABLE_FULL => Ok(whole_u32(bytes).map(Reply::TableFull)),
         _ => Ok(None),
     }
 }
@@ -139,10 +140,10 @@ fn part_of(number: u8) -> Option<Part>
     ensures { result ≡ part_of number }
 {
     match number {
-        0 => Some(Part::Nothing),
-        1 => Some(Part::Secret),
-        2 => Some(Part::Pin),
-        3 => Some(Part::Tries),
+        kinds::part::NOTHING => Some(Part::Nothing),
+        kinds::part::SECRET => Some(Part::Secret),
+        kinds::part::PIN => Some(Part::Pin),
+        kinds::part::TRIES => Some(Part::Tries),
         _ => None,
     }
 }

@@ -13,6 +13,7 @@ ghost use Rattle.host_msgs.specs.Needs.{IsShortPart};
 ghost use Rattle.host_msgs.specs.Grammar.{IsBody};
 ghost use Rattle.host_msgs.specs.Contents.{body_kind, body_content};
 
+use crate::kinds;
 use crate::pieces::{push_block, push_client};
 use fixed_fields::Writer;
 use values::{Body, ClientId, Memory};
@@ -25,7 +26,7 @@ pub fn push_body(out: &mut Writer, body: &Body) -> Result<(), Memory>
     ensures short { OnOk result (IsShortPart (body_content body.now)) }
 {
     match body {
-        Body::Noop => Ok(out.u8(0)?),
+        Body::Noop => Ok(out.u8(kinds::body::NOOP)?),
         Body::Ask {
             client,
             number,
@@ -42,7 +43,7 @@ fn push_ask(out: &mut Writer, client: &ClientId, number: u64, request: &[u8]) ->
     ensures grammar { OnOk result (IsBody (body.Ask client.now number request.now)) }
     ensures short { OnOk result (IsShortPart (ask_fields.spelled (client.now.0, (number, request.now)))) }
 {
-    out.u8(1)?;
+    out.u8(kinds::body::ASK)?;
     push_client(out, client)?;
     out.u64(number)?;
     push_block(out, request)
@@ -54,7 +55,7 @@ fn push_configuration(out: &mut Writer, margin: u8, voters: &[u32]) -> Result<()
     ensures grammar { OnOk result (IsBody (body.Members margin voters.now)) }
     ensures short { OnOk result (IsShortPart (conf_fields.spelled (margin, voters.now))) }
 {
-    out.u8(2)?;
+    out.u8(kinds::body::MEMBERS)?;
     out.u8(margin)?;
     out.counted(voters)?;
     Ok(())

@@ -7,6 +7,7 @@ ghost use Rattle.host_msgs.specs.Reading.{Finds};
 ghost use Rattle.host_msgs.specs.Wrapped.{is_request};
 
 use crate::item::Item;
+use crate::kinds;
 use crate::voters::voters;
 use client_msgs::is_canonical_request;
 use fixed_fields::{ShortList, array_at, counted_u32s, end, u8_at, u64_at};
@@ -43,9 +44,9 @@ fn entry_body(alloc: Global, kind: u8, bytes: &[u8]) -> Result<Option<Body>, Mem
     ensures { Finds result (body_in kind bytes.now) }
 {
     match kind {
-        0 => Ok(end(bytes).map(|()| Body::Noop)),
-        1 => ask(alloc, bytes),
-        2 => configuration(alloc, bytes),
+        kinds::body::NOOP => Ok(end(bytes).map(|()| Body::Noop)),
+        kinds::body::ASK => ask(alloc, bytes),
+        kinds::body::MEMBERS => configuration(alloc, bytes),
         _ => Ok(None),
     }
 }

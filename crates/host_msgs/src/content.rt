@@ -21,8 +21,8 @@ pub trait Content {
     /// Whether it is one of the grammar. What is in its ranges is, by what its type says of it.
     ghost grammar: { Self → Type 0 };
 
-    /// Writes the content. Bytes that four bytes cannot count are answered as want of memory: no batch of a replica has
-    /// them.
+    /// Writes the content. Bytes that four bytes cannot count are answered as memory that ran out: no batch of a replica
+    /// has them.
     fn push(&self, alloc: Global, out: &mut Writer) -> Result<(), Memory>
         requires { fits self.now }
         ensures puts { Puts result out.old out.new (content self.now) }

@@ -14,6 +14,7 @@ ghost use Rattle.host_msgs.specs.Contents.{members_content, halt_content, taken_
 
 use crate::bodies::push_body;
 use crate::content::Content;
+use crate::kinds::refusal as codes;
 use crate::pieces::{push_block, push_client, push_hash};
 use crate::replies::push_answer;
 use fixed_fields::Writer;
@@ -21,7 +22,7 @@ use group_msgs::write_peer;
 use std::alloc::Global;
 use values::{Answer, ClientId, Hash, Ids, LogEntry, Memory, PeerMsg, Point, Refusal, ReplicaId};
 
-/// A term.
+/// The term in which a replica leads.
 impl Content for u64 {
     ghost content = { long_field.spelled };
 
@@ -35,7 +36,7 @@ impl Content for u64 {
     }
 }
 
-/// The number of a state.
+/// The number of a saved state.
 impl Content for u32 {
     ghost content = { word_field.spelled };
 
@@ -83,7 +84,7 @@ impl Content for (u64, Hash, Hash) {
     }
 }
 
-/// A point.
+/// The point of a table that was taken.
 impl Content for Point {
     ghost content = { taken_content };
 
@@ -179,18 +180,18 @@ fn numbers(refusal: &Refusal) -> (u8, u64, u64)
     ensures grammar { IsRefusal refusal.now }
 {
     match refusal {
-        Refusal::NotLeader(known) => (1, u64::from(*known), 0),
-        Refusal::ChangePending(newest, committed) => (2, *newest, *committed),
-        Refusal::AlreadyVoter(id) => (3, u64::from(*id), 0),
-        Refusal::NotVoter(id) => (4, u64::from(*id), 0),
-        Refusal::TooFew(count) => (5, u64::from(*count), 0),
-        Refusal::TooMany(count) => (6, u64::from(*count), 0),
-        Refusal::NotCaughtUp(mark, committed) => (7, *mark, *committed),
-        Refusal::NoLink(id) => (8, u64::from(*id), 0),
-        Refusal::LogFull(last) => (9, *last, 0),
-        Refusal::NoState(k) => (10, u64::from(*k), 0),
-        Refusal::NotForMe(to) => (11, u64::from(*to), 0),
-        Refusal::BadPeer(offset) => (12, *offset, 0),
-        Refusal::SameMargin(margin) => (13, u64::from(*margin), 0),
+        Refusal::NotLeader(known) => (codes::NOT_LEADER, u64::from(*known), 0),
+        Refusal::ChangePending(newest, committed) => (codes::CHANGE_PENDING, *newest, *committed),
+        Refusal::AlreadyVoter(id) => (codes::ALREADY_VOTER, u64::from(*id), 0),
+        Refusal::NotVoter(id) => (codes::NOT_VOTER, u64::from(*id), 0),
+        Refusal::TooFew(count) => (codes::TOO_FEW, u64::from(*count), 0),
+        Refusal::TooMany(count) => (codes::TOO_MANY, u64::from(*count), 0),
+        Refusal::NotCaughtUp(mark, committed) => (codes::NOT_CAUGHT_UP, *mark, *committed),
+        Refusal::NoLink(id) => (codes::NO_LINK, u64::from(*id), 0),
+        Refusal::LogFull(last) => (codes::LOG_FULL, *last, 0),
+        Refusal::NoState(k) => (codes::NO_STATE, u64::from(*k), 0),
+        Refusal::NotForMe(to) => (codes::NOT_FOR_ME, u64::from(*to), 0),
+        Refusal::BadPeer(offset) => (codes::BAD_PEER, *offset, 0),
+        Refusal::SameMargin(margin) => (codes::SAME_MARGIN, u64::from(*margin), 0),
     }
 }

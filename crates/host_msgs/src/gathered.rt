@@ -5,6 +5,7 @@ ghost use Rattle.host_msgs.specs.Batches.{is_in_place, may_repeat};
 
 use crate::fault::FrameList;
 use crate::item::Item;
+use crate::kinds::item;
 use std::alloc::Global;
 use values::{Batch, Items, Memory, ReplicaId};
 
@@ -46,7 +47,7 @@ impl Gathered {
     }
 
     /// Takes in an item of this kind, and answers whether it may stand here: a message is from the sender of those before
-    /// it. Want of memory leaves out what it says, and not its kind and its sender.
+    /// it. Where memory runs out, what it says is left out, but not its kind and its sender.
     pub fn place(&mut self, kind: u8, item: Item) -> Result<bool, Memory>
         ensures { Places result self.new (placed self.old kind item) }
     {
@@ -100,16 +101,19 @@ impl Gathered {
     }
 }
 
-/// Whether an item of this kind may stand behind one of another.
+/// Whether an item of this kind may follow one of another.
 pub fn is_in_place(last: u8, kind: u8) -> bool
     ensures { result ≡ is_in_place last kind }
 {
     last < kind || last == kind && may_repeat(kind)
 }
 
-/// Whether several items of this kind may stand.
+/// Whether a batch may have several items of this kind.
 fn may_repeat(kind: u8) -> bool
     ensures { result ≡ may_repeat kind }
 {
-    kind == 2 || kind == 5 || kind == 6 || kind == 7
+    matches!(
+        kind,
+        item::MEMBERS | item::COMMIT | item::ANSWER | item::SENT
+    )
 }

@@ -7,6 +7,7 @@ ghost use Rattle.host_msgs.specs.Reading.{Finds};
 
 use crate::answer::answer;
 use crate::commit::commit;
+use crate::kinds;
 use crate::plain::{halt, lead, saved, taken};
 use crate::refusal::refused;
 use crate::sent::sent;
@@ -54,15 +55,15 @@ pub fn read_item(alloc: Global, kind: u8, content: &[u8]) -> Result<Option<Item>
     ensures { Finds result (item_in kind content.now) }
 {
     match kind {
-        1 => Ok(lead(content)),
-        2 => members(alloc, content),
-        3 => Ok(halt(content)),
-        4 => Ok(taken(content)),
-        5 => commit(alloc, content),
-        6 => answer(alloc, content),
-        7 => sent(alloc, content),
-        8 => Ok(saved(content)),
-        9 => Ok(refused(content)),
+        kinds::item::LEAD => Ok(lead(content)),
+        kinds::item::MEMBERS => members(alloc, content),
+        kinds::item::HALT => Ok(halt(content)),
+        kinds::item::TAKEN => Ok(taken(content)),
+        kinds::item::COMMIT => commit(alloc, content),
+        kinds::item::ANSWER => answer(alloc, content),
+        kinds::item::SENT => sent(alloc, content),
+        kinds::item::SAVED => Ok(saved(content)),
+        kinds::item::REFUSED => Ok(refused(content)),
         _ => Ok(None),
     }
 }

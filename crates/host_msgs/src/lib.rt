@@ -24,6 +24,7 @@ mod contents;
 mod fault;
 mod gathered;
 mod item;
+mod kinds;
 mod laws;
 mod pieces;
 mod plain;

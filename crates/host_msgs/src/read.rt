@@ -10,6 +10,7 @@ ghost use Rattle.host_msgs.specs.declared.item.Item.{Item};
 use crate::fault::{BatchFault, FrameList};
 use crate::gathered::{Gathered, is_in_place};
 use crate::item::{Item, read_item};
+use crate::kinds::item;
 use fixed_fields::{block_at, u8_at, u32_at};
 use std::alloc::Global;
 use values::{Batch, Memory, ReplicaId};
@@ -21,7 +22,7 @@ pub fn read_batch(
 ) -> Result<(ReplicaId, Batch, FrameList), BatchFault>
     // What is read is what the items of the content say.
     ensures found { IfOk result (λ read. IsListed content.now read.0 read.1 read.2) }
-    // Every content of items in order is read, and of another the offset of the first bad item is told. Want of memory hides
+    // Every content of items in order is read, and of another the offset of the first bad item is told. Memory that runs out hides
     // a batch only.
     ensures exact { ReadsBatch result (batch_in content.now) }
 {
@@ -46,12 +47,12 @@ fn read_items(alloc: Global, content: &[u8]) -> Result<(ReplicaId, Batch, FrameL
     Ok((gathered.sender, gathered.batch, gathered.frames))
 }
 
-/// A batch as far as it was read. Where memory was wanted it lacks items, and is read on to find one that is not in the
+/// A batch as far as it was read. Where memory ran out it lacks items, and is read on to find one that is not in the
 /// grammar.
 #[derive(Drop)]
 pub struct Reading {
     pub gathered: Gathered,
-    /// Whether memory was wanted.
+    /// Whether memory ran out.
     pub lost: bool,
 }
 
@@ -99,7 +100,7 @@ impl Reading {
         }
     }
 
-    /// Goes past an item for which memory was wanted, and answers whether it may stand here.
+    /// Goes past an item for which memory ran out, and answers whether it may stand here.
     fn pass(&mut self, kind: u8, sender: Option<ReplicaId>) -> bool
         ensures { (g : Gathered) (item : Item) → Stands self.old g → sender_of item ≡ sender → Follows result self.new (placed g kind item) }
     {
@@ -112,7 +113,7 @@ impl Reading {
 fn sender_in(kind: u8, content: &[u8]) -> Option<ReplicaId>
     ensures { result ≡ sender_in kind content.now }
 {
-    if kind != 7 {
+    if kind != item::SENT {
         return None;
     }
     let (from, _) = u32_at(content)?;

@@ -5,6 +5,7 @@ ghost use Rattle.host_msgs.specs.Refusals.{refusal_of, two_indices, small_refusa
 ghost use Rattle.host_msgs.specs.Items.{refused_in};
 
 use crate::item::Item;
+use crate::kinds::refusal as codes;
 use fixed_fields::{end, u8_at, u64_at};
 use group_quorum::MAX_MARGIN;
 use values::{Refusal, TOP};
@@ -23,7 +24,7 @@ pub fn refused(content: &[u8]) -> Option<Item>
 fn refusal(code: u8, first: u64, second: u64) -> Option<Refusal>
     ensures { result ≡ refusal_of code first second }
 {
-    if code == 2 || code == 7 {
+    if code == codes::CHANGE_PENDING || code == codes::NOT_CAUGHT_UP {
         return two_indices(code, first, second);
     }
     if second != 0 {
@@ -40,7 +41,7 @@ fn two_indices(code: u8, first: u64, second: u64) -> Option<Refusal>
         return None;
     }
     Some(match code {
-        2 => Refusal::ChangePending(first, second),
+        codes::CHANGE_PENDING => Refusal::ChangePending(first, second),
         _ => Refusal::NotCaughtUp(first, second),
     })
 }
@@ -49,9 +50,11 @@ fn one_number(code: u8, number: u64) -> Option<Refusal>
     ensures { result ≡ one_number code number }
 {
     match code {
-        9 if number <= TOP => Some(Refusal::LogFull(number)),
-        12 => Some(Refusal::BadPeer(number)),
-        13 if number <= u64::from(MAX_MARGIN) => Some(Refusal::SameMargin(number as u8)),
+        codes::LOG_FULL if number <= TOP => Some(Refusal::LogFull(number)),
+        codes::BAD_PEER => Some(Refusal::BadPeer(number)),
+        codes::SAME_MARGIN if number <= u64::from(MAX_MARGIN) => Some(Refusal::SameMargin(
+            number as u8,
+        )),
         _ if number <= u64::from(u32::MAX) => small_refusal(code, number as u32),
         _ => None,
     }
@@ -62,14 +65,14 @@ fn small_refusal(code: u8, number: u32) -> Option<Refusal>
     ensures { result ≡ small_refusal code number }
 {
     match code {
-        1 => Some(Refusal::NotLeader(number)),
-        3 => Some(Refusal::AlreadyVoter(number)),
-        4 => Some(Refusal::NotVoter(number)),
-        5 => Some(Refusal::TooFew(number)),
-        6 => Some(Refusal::TooMany(number)),
-        8 => Some(Refusal::NoLink(number)),
-        10 => Some(Refusal::NoState(number)),
-        11 => Some(Refusal::NotForMe(number)),
+        codes::NOT_LEADER => Some(Refusal::NotLeader(number)),
+        codes::ALREADY_VOTER => Some(Refusal::AlreadyVoter(number)),
+        codes::NOT_VOTER => Some(Refusal::NotVoter(number)),
+        codes::TOO_FEW => Some(Refusal::TooFew(number)),
+        codes::TOO_MANY => Some(Refusal::TooMany(number)),
+        codes::NO_LINK => Some(Refusal::NoLink(number)),
+        codes::NO_STATE => Some(Refusal::NoState(number)),
+        codes::NOT_FOR_ME => Some(Refusal::NotForMe(number)),
         _ => None,
     }
 }

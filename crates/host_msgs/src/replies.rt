@@ -12,6 +12,7 @@ ghost use Rattle.host_msgs.specs.Needs.{IsBlock, IsShortPart};
 ghost use Rattle.host_msgs.specs.Grammar.{IsHash, IsReply, IsAnswer};
 ghost use Rattle.host_msgs.specs.Contents.{reply_kind, reply_content, part_number, answer_kind, answer_bytes};
 
+use crate::kinds;
 use crate::pieces::{push_block, push_hash, push_long, push_word};
 use client_msgs::write_response;
 use fixed_fields::Writer;
@@ -27,12 +28,12 @@ pub fn push_answer(alloc: Global, out: &mut Writer, answer: &Answer) -> Result<(
 {
     match answer {
         Answer::Outcome(index, reply) => push_outcome(alloc, out, *index, reply),
-        Answer::NotLeader(id) => push_word(out, 1, *id),
-        Answer::Busy(count) => push_long(out, 2, *count),
+        Answer::NotLeader(id) => push_word(out, kinds::answer::NOT_LEADER, *id),
+        Answer::Busy(count) => push_long(out, kinds::answer::BUSY, *count),
         Answer::Undecided(at, kept, offered) => push_undecided(out, *at, kept, offered),
-        Answer::Malformed(offset) => push_long(out, 4, *offset),
+        Answer::Malformed(offset) => push_long(out, kinds::answer::MALFORMED, *offset),
         Answer::Invalid(part, size) => push_invalid(out, part_number(*part), *size),
-        Answer::Halted(index) => push_long(out, 6, *index),
+        Answer::Halted(index) => push_long(out, kinds::answer::HALTED, *index),
     }
 }
 
@@ -44,7 +45,7 @@ fn push_outcome(alloc: Global, out: &mut Writer, index: u64, reply: &Reply) -> R
     ensures short { OnOk result
         (IsShortPart (outcome_fields.spelled (index, (reply_kind reply.now, reply_content reply.now)))) }
 {
-    out.u8(0)?;
+    out.u8(kinds::answer::OUTCOME)?;
     out.u64(index)?;
     push_reply(alloc, out, reply)
 }
@@ -58,8 +59,8 @@ fn push_reply(alloc: Global, out: &mut Writer, reply: &Reply) -> Result<(), Memo
 {
     match reply {
         Reply::Applied(response) => push_response(alloc, out, response),
-        Reply::Stale(last) => push_long(out, 1, *last),
-        Reply::TableFull(rows) => push_word(out, 2, *rows),
+        Reply::Stale(last) => push_long(out, kinds::reply::STALE, *last),
+        Reply::TableFull(rows) => push_word(out, kinds::reply::TABLE_FULL, *rows),
     }
 }
 
@@ -71,7 +72,7 @@ fn push_response(alloc: Global, out: &mut Writer, response: &Response) -> Result
 {
     let _read = status_and_tries(response);
     let bytes = write_response(alloc, response)?;
-    out.u8(0)?;
+    out.u8(kinds::reply::APPLIED)?;
     push_block(out, bytes.as_slice())
 }
 
@@ -95,7 +96,7 @@ fn push_undecided(out: &mut Writer, at: u64, kept: &Hash, offered: &Hash) -> Res
     ensures kept { OnOk result (IsHash kept.now) }
     ensures offered { OnOk result (IsHash offered.now) }
 {
-    out.u8(3)?;
+    out.u8(kinds::answer::UNDECIDED)?;
     out.u64(at)?;
     push_hash(out, kept)?;
     push_hash(out, offered)?;
@@ -105,7 +106,7 @@ fn push_undecided(out: &mut Writer, at: u64, kept: &Hash, offered: &Hash) -> Res
 fn push_invalid(out: &mut Writer, part: u8, size: u64) -> Result<(), Memory>
     ensures { Puts result out.old out.new (number_bytes w8 5 ++ part_fields.spelled (part, size)) }
 {
-    out.u8(5)?;
+    out.u8(kinds::answer::INVALID)?;
     out.u8(part)?;
     out.u64(size)?;
     Ok(())
@@ -115,9 +116,9 @@ fn part_number(part: Part) -> u8
     ensures { result ≡ part_number part }
 {
     match part {
-        Part::Nothing => 0,
-        Part::Secret => 1,
-        Part::Pin => 2,
-        Part::Tries => 3,
+        Part::Nothing => kinds::part::NOTHING,
+        Part::Secret => kinds::part::SECRET,
+        Part::Pin => kinds::part::PIN,
+        Part::Tries => kinds::part::TRIES,
     }
 }

@@ -13,6 +13,7 @@ ghost use Rattle.host_msgs.specs.Parts.{IsStanding, IsDoing, IsHosting};
 
 use crate::content::{push_item, push_items, push_once};
 use crate::contents::Frame;
+use crate::kinds::item;
 use crate::laws::batches_are_read_again;
 use fixed_fields::Writer;
 use std::alloc::Global;
@@ -66,10 +67,10 @@ fn push_standing(alloc: Global, batch: &Batch, out: &mut Writer) -> Result<(), M
     ensures puts { Puts result out.old out.new (standing_bytes batch.now) }
     ensures says { OnOk result (IsStanding batch.now) }
 {
-    push_once(alloc, out, 1, &batch.lead)?;
-    push_items(alloc, out, 2, batch.members.as_slice())?;
-    push_once(alloc, out, 3, &batch.halt)?;
-    push_once(alloc, out, 4, &batch.taken)
+    push_once(alloc, out, item::LEAD, &batch.lead)?;
+    push_items(alloc, out, item::MEMBERS, batch.members.as_slice())?;
+    push_once(alloc, out, item::HALT, &batch.halt)?;
+    push_once(alloc, out, item::TAKEN, &batch.taken)
 }
 
 /// What it did since.
@@ -79,8 +80,8 @@ fn push_doing(alloc: Global, me: ReplicaId, batch: &Batch, out: &mut Writer) -> 
     ensures puts { Puts result out.old out.new (doing_bytes me batch.now) }
     ensures says { OnOk result (IsDoing me batch.now) }
 {
-    push_items(alloc, out, 5, batch.commits.as_slice())?;
-    push_items(alloc, out, 6, batch.answers.as_slice())?;
+    push_items(alloc, out, item::COMMIT, batch.commits.as_slice())?;
+    push_items(alloc, out, item::ANSWER, batch.answers.as_slice())?;
     push_sent(alloc, out, me, batch.sent.as_slice())
 }
 
@@ -90,8 +91,8 @@ fn push_hosting(alloc: Global, batch: &Batch, out: &mut Writer) -> Result<(), Me
     ensures puts { Puts result out.old out.new (hosting_bytes batch.now) }
     ensures says { OnOk result (IsHosting batch.now) }
 {
-    push_once(alloc, out, 8, &batch.saved)?;
-    push_once(alloc, out, 9, &batch.refused)
+    push_once(alloc, out, item::SAVED, &batch.saved)?;
+    push_once(alloc, out, item::REFUSED, &batch.refused)
 }
 
 fn push_sent(
@@ -112,7 +113,7 @@ fn push_sent(
             to: *to,
             message,
         };
-        push_item(alloc, out, 7, &frame)?;
+        push_item(alloc, out, item::SENT, &frame)?;
     }
     Ok(())
 }

@@ -23,5 +23,5 @@ pub record IsMarkedAt (piece : List ℕ) (start at : ℕ) : Type 0 where
 -- what was cut of the line that begins at a place, where the walk goes on, and how it ended
 abbrev pub Cuts : List ℕ → ℕ → ℕ → Record → Cut → Type 0
 Cuts piece start next fields (cut.Whole end) = IsPlainTo piece start end × (next ≡ end + 1) × (fields ≡ cells [] (slice_range piece start end))
-Cuts piece start next fields cut.Open = (is_plain (drop start piece) ≡ true) × (fields ≡ cells [] (drop start piece))
+Cuts piece start next fields cut.Partial = (is_plain (drop start piece) ≡ true) × (fields ≡ cells [] (drop start piece))
 Cuts piece start next fields cut.Marked = (at : ℕ) × IsMarkedAt piece start at

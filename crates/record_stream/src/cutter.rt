@@ -15,8 +15,8 @@ use std::alloc::AllocError;
 pub enum Cut {
     /// The line feed that stands here ends the line, and its fields were cut.
     Whole(usize),
-    /// The bytes end, and the fields of what they have of the line were cut.
-    Open,
+    /// The bytes end before a line feed, and what they have of the line was cut into fields.
+    Partial,
     /// A byte of the line means more to a reader than itself, a comma or a line feed.
     Marked,
 }
@@ -103,6 +103,6 @@ impl<'p> Cutter<'p> {
             }
         }
         fields.push(&piece[start..])?;
-        Ok(Cut::Open)
+        Ok(Cut::Partial)
     }
 }

@@ -109,7 +109,7 @@ fn play_line<'p, P: Player>(
 {
     let body = body_of(line);
     match Cutter::new(body, 0).cut_line(fields) {
-        Ok(Cut::Open) => play_cut(player, body, fields.as_slice(), lines),
+        Ok(Cut::Partial) => play_cut(player, body, fields.as_slice(), lines),
         Ok(_) => read_line(alloc, player, line, lines),
         Err(AllocError) => Err(Stop::Memory),
     }
@@ -158,7 +158,7 @@ fn play_whole<P: Player>(
         };
         match cut {
             Cut::Whole(end) => play_cut(player, &piece[start..end], fields.as_slice(), lines)?,
-            Cut::Open => return Ok(start),
+            Cut::Partial => return Ok(start),
             Cut::Marked => {
                 let Some(end) = feed_from(piece, start) else {
                     return Ok(start);

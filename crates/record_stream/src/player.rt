@@ -11,7 +11,7 @@ use svr_base::Memory;
 /// Why playing ended before the records did.
 #[derive(Clone, Copy, Debug, PartialEq, Eq)]
 pub enum Stop<R> {
-    /// Want of memory.
+    /// Memory ran out.
     Memory,
     /// A record stops the player for this reason, and what is to be said of it was appended.
     Stopped(R),
@@ -71,7 +71,7 @@ pub trait Player {
 
     /// Plays the record of these fields and appends what it says.
     ///
-    /// After want of memory some first bytes of that were appended; after any other error all of it was.
+    /// Where memory ran out, only some first bytes of that were appended; after any other error all of it was.
     fn play(&mut self, fields: &[&[u8]], lines: &mut Vec<u8>) -> Result<(), Stop<Self::Reason>>
         requires live { live self.old }
         requires count { count self.old < 2 ^ 62 }

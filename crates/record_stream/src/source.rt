@@ -20,7 +20,7 @@ pub enum Ended<R> {
     Done,
     /// A record stopped the player for this reason.
     Stopped(R),
-    /// Want of memory.
+    /// Memory ran out.
     Memory,
     /// The source failed.
     ReadFault,

@@ -12,7 +12,7 @@ use Rattle.replica_log.specs.declared.graft.Graft.{Graft}
 use Rattle.replica_log.specs.declared.graft.Graft.TheVariants.{Grafted, Apart, Conflict}
 use Rattle.replica_log.specs.Window.{Window, IsOrdered, base_index, last_index, upto, hash_at, summary_at}
 use Rattle.replica_log.specs.Grafting.{first_differing, difference, kept_index, grafted, point_at, offered_end, placed, judged}
-use Rattle.append_rules.specs.Taken.{after_by, after_offer, took_by, took_of}
+use Rattle.append_rules.specs.Taken.{after_by, after_offer, taken_by, taken_of, cut_of}
 use Rattle.replica_core.specs.Replacing.{kept_upto}
 
 some-kept : {A : Type 0} (b : Bool) (x y : A) → cond b (Some x) None ≡ Some y → b ≡ true
@@ -57,7 +57,7 @@ pub record Reached (w w' : Window) (end : ℕ) (cut : Option Difference) : Type 
 
 module _ (w : Window) (prev : Point) (entries : Path) (o : IsOrdered w) (term promise commit : ℕ) where
   abbrev ReachedBy : Graft → Type 0
-  ReachedBy g = Reached w (after_by w prev entries promise commit g) (prev.index + length entries) (took_by w term prev promise g).cut
+  ReachedBy g = Reached w (after_by w prev entries promise commit g) (prev.index + length entries) (cut_of (taken_by w term prev promise g))
 
   unchanged-apart : (hint : ℕ) → ReachedBy (Apart hint)
   unchanged-apart hint = record { most = omega arith; kept = omega arith; above = omega arith; base = refl; committed = omega arith }
@@ -111,7 +111,7 @@ module _ (w : Window) (prev : Point) (entries : Path) (o : IsOrdered w) (term pr
       (some-kept (nat_le (base_index w) i && nat_le i (last_index w)) (summary_at sha_link w i).point.hash h is)).1
 
   -- so far the log reaches after an append
-  pub offer-reached : Reached w (after_offer w prev entries promise commit) (prev.index + length entries) (took_of w term prev entries promise).cut
+  pub offer-reached : Reached w (after_offer w prev entries promise commit) (prev.index + length entries) (cut_of (taken_of w term prev entries promise))
   offer-reached =
       judged-reached (difference sha_link w prev entries)
       (λ x is. differs-within (hash_at sha_link w) (last_index w) hash-within (points_from sha_link prev.index prev.hash entries) x is)

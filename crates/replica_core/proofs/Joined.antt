@@ -25,34 +25,35 @@ use Rattle.replica_log.specs.declared.graft.Graft.{Graft}
 use Rattle.replica_log.specs.declared.graft.Graft.TheVariants.{Grafted, Apart, Conflict}
 use Rattle.replica_log.specs.Window.{Window, IsOrdered, base_index, last_index, upto, hash_at}
 use Rattle.replica_log.specs.Grafting.{difference, kept_index, grafted, point_at, offered_end, placed, judged}
-use Rattle.append_rules.specs.declared.take.Took.{Took}
-use Rattle.append_rules.specs.Taken.{after_by, after_offer, took_by, took_of}
+use Rattle.append_rules.specs.declared.take.Taken.{Taken}
+use Rattle.append_rules.specs.declared.take.Taken.TheVariants as taken
+use Rattle.append_rules.specs.Taken.{after_by, after_offer, taken_by, taken_of, reply_of, cut_of, halt_of}
 use Rattle.replica_core.specs.declared.role.Role.TheVariants as kept
 use Rattle.replica_core.specs.declared.tickets.Ticket.{Ticket}
 use Rattle.replica_core.specs.declared.holder.Holder.{Holder}
 use Rattle.replica_core.specs.InRange.{IsHolderInRange}
 use Rattle.group_msgs.specs.Batches.{IsAnswerInRange}
 use Rattle.replica_core.specs.Ranges.{IsStepBatch}
-use Rattle.replica_core.specs.Replacing.{kept_upto, members_above, tickets_left, given_up, reply_to}
+use Rattle.replica_core.specs.Replacing.{kept_upto, members_above, tickets_left, given_up}
 use Rattle.replica_core.proofs.Bounds.{differs-within, hash-within}
-use Rattle.replica_core.proofs.Ranged.{all-sent-in, all-answered-in, all-members-in, sent-in}
+use Rattle.replica_core.proofs.Ranged.{all-answered-in, all-members-in, sent-in}
 
 -- an index in a difference
 abbrev pub AtIndex : Option Difference → Type 0
 AtIndex d = IfSome d (λ (x : Difference). IsIndex x.0)
 
 -- a log after an append, and the answer
-pub record Brings (w w' : Window) (took : Took) : Type 0 where
+pub record Brings (w w' : Window) (t : Taken) : Type 0 where
   pub base : w'.base ≡ w.base
   pub entries : All IsEntryInRange w'.entries
-  pub cut : AtIndex took.cut
-  pub halt : AtIndex took.halt
-  pub reply : IfSome took.reply IsInRange
+  pub cut : AtIndex (cut_of t)
+  pub halt : AtIndex (halt_of t)
+  pub reply : IfSome (reply_of t) IsInRange
 
 module _ (w : Window) (o : IsOrdered w) (prev : Point) (entries : Path) (term promise commit : ℕ) (kept_are : All IsEntryInRange w.entries) (are : All IsEntryInRange entries)
     (end_in : prev.index + length entries ≤ TOP) (term_in : term ≤ TOP) where
   abbrev BringsBy : Graft → Type 0
-  BringsBy g = Brings w (after_by w prev entries promise commit g) (took_by w term prev promise g)
+  BringsBy g = Brings w (after_by w prev entries promise commit g) (taken_by w term prev promise g)
 
   apart : (hint : ℕ) → hint ≤ TOP → BringsBy (Apart hint)
   apart hint le = record { base = refl; entries = kept_are; cut = tt; halt = tt; reply = (term_in, (omega (arith, end_in), le)) }
@@ -94,14 +95,14 @@ module _ (w : Window) (o : IsOrdered w) (prev : Point) (entries : Path) (term pr
       (λ so. conflict x.0 x.1 x.2 at)
       (λ not_so. placed-in (Some x) at)
 
-  offer-brings : Brings w (after_offer w prev entries promise commit) (took_of w term prev entries promise)
+  offer-brings : Brings w (after_offer w prev entries promise commit) (taken_of w term prev entries promise)
   offer-brings =
       judged-in (difference sha_link w prev entries)
       (λ x is. differs-within (hash_at sha_link w) (last_index w) (hash-within w prev entries o term promise commit) (points_from sha_link prev.index prev.hash entries) x is)
 
-  pub brings-as : (w' : Window) (took : Took) → took ≡ took_of w term prev entries promise → w' ≡ after_offer w prev entries promise commit → Brings w w' took
-  brings-as w' took took-is after =
-      subst (λ (x : Window). Brings w x took) (sym after) (subst (λ (t : Took). Brings w (after_offer w prev entries promise commit) t) (sym took-is) offer-brings)
+  pub brings-as : (w' : Window) (t : Taken) → taken_of w term prev entries promise ≡ t → w' ≡ after_offer w prev entries promise commit → Brings w w' t
+  brings-as w' t is after =
+      subst (λ (x : Window). Brings w x t) (sym after) (subst (λ (x : Taken). Brings w (after_offer w prev entries promise commit) x) is offer-brings)
 
 -- configurations of entries in range
 one-member : (i : ℕ) (e : LogEntry) (ms : List (ℕ × ℕ × List ℕ)) → IsIndex i → IsEntryInRange e
@@ -134,22 +135,24 @@ given-in (Some d) ts at = each (filter (λ t. nat_le d.0 t.index) ts)
         All-cons (λ (a : ClientId × ℕ × Answer). IsAnswerInRange a.2) (u.client, u.number, Undecided d.0 d.1 d.2)
         (map (λ (t : Ticket). (t.client, t.number, Undecided d.0 d.1 d.2)) us) at (each us)
 
-module _ (h : Holder) (ranged : IsHolderInRange h) (w : Window) (took : Took) (brings : Brings h.log w took) where
-  -- the replica that halts
-  pub halted-in : IsHolderInRange (record h { log = w; halted = took.halt })
-  halted-in =
-      record {
-        me = ranged.me;
-        known = ranged.known;
-        base_term = subst (λ b. IsIndex b.term) (sym brings.base) ranged.base_term;
-        base_conf = subst (λ b. IsSoundConf b.conf) (sym brings.base) ranged.base_conf;
-        entries = brings.entries;
-        role = ranged.role;
-        halted = brings.halt;
-      }
+-- the replica that halts
+pub halted-in : (h : Holder) → IsHolderInRange h → (w : Window) (d : Difference) → Brings h.log w (taken.Conflict d.0 d.1 d.2)
+    → IsHolderInRange (record h { log = w; halted = Some d })
+halted-in h ranged w d brings =
+    record {
+      me = ranged.me;
+      known = ranged.known;
+      base_term = subst (λ b. IsIndex b.term) (sym brings.base) ranged.base_term;
+      base_conf = subst (λ b. IsSoundConf b.conf) (sym brings.base) ranged.base_conf;
+      entries = brings.entries;
+      role = ranged.role;
+      halted = brings.halt;
+    }
 
+module _ (h : Holder) (ranged : IsHolderInRange h) (w : Window) (reply : PeerMsg) (cut : Option Difference)
+    (brings : Brings h.log w (taken.Replied reply cut)) where
   -- the replica that follows
-  pub follower-in : (from : ℕ) → IsId from → IsHolderInRange (record h { log = w; role = kept.Follower; known = from; tickets = tickets_left took.cut h.tickets })
+  pub follower-in : (from : ℕ) → IsId from → IsHolderInRange (record h { log = w; role = kept.Follower; known = from; tickets = tickets_left cut h.tickets })
   follower-in from id =
       record {
         me = ranged.me;
@@ -162,23 +165,19 @@ module _ (h : Holder) (ranged : IsHolderInRange h) (w : Window) (took : Took) (b
       }
 
   -- what it tells before entries are applied
-  pub told-in : (b : Batch) → IsStepBatch b → IsOrdered w → kept_upto (last_index h.log) took.cut ≤ last_index w
-      → base_index w ≤ kept_upto (last_index h.log) took.cut
-      → IsStepBatch (record b { members = b.members ++ members_above w (kept_upto (last_index h.log) took.cut); answers = b.answers ++ given_up took.cut h.tickets })
+  pub told-in : (b : Batch) → IsStepBatch b → IsOrdered w → kept_upto (last_index h.log) cut ≤ last_index w
+      → base_index w ≤ kept_upto (last_index h.log) cut
+      → IsStepBatch (record b { members = b.members ++ members_above w (kept_upto (last_index h.log) cut); answers = b.answers ++ given_up cut h.tickets })
   told-in b in_range ow within above =
-      let k : ℕ = kept_upto (last_index h.log) took.cut in
+      let k : ℕ = kept_upto (last_index h.log) cut in
       let ms : List (ℕ × ℕ × List ℕ) = members_above w k in
       let top = ow.top in
       let d = length-drop (k - base_index w) w.entries in
       let le : k + 1 + length (drop (k - base_index w) w.entries) ≤ TOP + 1 = omega (arith, top, d, within, above) in
       all-answered-in (record b { members = b.members ++ ms })
       (all-members-in b in_range ms (members-in (k + 1) (drop (k - base_index w) w.entries) le (All-drop IsEntryInRange (k - base_index w) w.entries brings.entries)))
-      (given_up took.cut h.tickets) (given-in took.cut h.tickets brings.cut)
+      (given_up cut h.tickets) (given-in cut h.tickets brings.cut)
 
   -- and the reply
-  pub replied-in : (b : Batch) (from : ℕ) → IsId from → IsStepBatch b → IsStepBatch (record b { sent = b.sent ++ reply_to from took.reply })
-  replied-in b from id in_range = by took.reply brings.reply
-    where
-      by : (r : Option PeerMsg) → IfSome r IsInRange → IsStepBatch (record b { sent = b.sent ++ reply_to from r })
-      by None none = all-sent-in b in_range [] (All-nil (λ (m : ℕ × PeerMsg). IsId m.0 × IsInRange m.1))
-      by (Some msg) one = sent-in b in_range from msg id one
+  pub replied-in : (b : Batch) (from : ℕ) → IsId from → IsStepBatch b → IsStepBatch (record b { sent = b.sent ++ (from, reply) ∷ [] })
+  replied-in b from id in_range = sent-in b in_range from reply id brings.reply

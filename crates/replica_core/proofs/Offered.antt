@@ -9,6 +9,7 @@ use Rattle.values.specs.declared.message.Answer.{Answer}
 use Rattle.values.specs.declared.entry.Body.{Body}
 use Rattle.values.specs.declared.entry.Body.TheVariants.{Noop, Ask, Members}
 use Rattle.values.specs.declared.entry.Point.{Point}
+use Rattle.values.specs.declared.peer.PeerMsg.{PeerMsg}
 use Rattle.group_msgs.specs.Ranges.{IsBodyInRange, IsEntryInRange}
 use Rattle.replica_model.specs.Linked.{sha_link}
 use Rattle.replica_model.specs.Path.{Path}
@@ -17,8 +18,9 @@ use Rattle.replica_log.specs.declared.graft.Graft.{Graft}
 use Rattle.replica_log.specs.declared.graft.Graft.TheVariants.{Grafted, Apart, Conflict}
 use Rattle.replica_log.specs.Grafting.{graft_of}
 use Rattle.replica_log.specs.Window.{Window, FitsBody, Fits, IsOrdered, last_index}
-use Rattle.append_rules.specs.declared.take.Took.{Took}
-use Rattle.append_rules.specs.Taken.{after_by, took_by, after_offer, took_of}
+use Rattle.append_rules.specs.declared.take.Taken.{Taken}
+use Rattle.append_rules.specs.declared.take.Taken.TheVariants as taken
+use Rattle.append_rules.specs.Taken.{after_by, taken_by, after_offer, taken_of, cut_of, halt_of}
 use Rattle.replica_core.specs.declared.role.Role.TheVariants as kept
 use Rattle.replica_core.specs.declared.tickets.Ticket.{Ticket}
 use Rattle.replica_core.specs.declared.holder.Holder.{Holder}
@@ -41,7 +43,7 @@ all_fit [] h = tt
 all_fit (e ∷ es) h = (fits_body e.body (All-head IsEntryInRange e es h).1, all_fit es (All-tail IsEntryInRange e es h))
 
 -- the log of one that halts is as before
-pub halted-same : (w : Window) (prev : Point) (entries : Path) (term promise commit : ℕ) (g : Graft) → is_some (took_by w term prev promise g).halt ≡ true
+pub halted-same : (w : Window) (prev : Point) (entries : Path) (term promise commit : ℕ) (g : Graft) → is_some (halt_of (taken_by w term prev promise g)) ≡ true
     → after_by w prev entries promise commit g ≡ w
 halted-same w prev entries term promise commit (Grafted end cut) halts = cc
 halted-same w prev entries term promise commit (Apart hint) halts = refl
@@ -61,15 +63,17 @@ heard-sound h w from end cut b had sound o ow reached had-is =
     (left-within cut (last_index h.log) (last_index w) h.tickets reached.kept sound.within)
     ow (omega (arith, low, base, had-is)) (omega (arith, more, had-is))
 
-module _ (w : Window) (o : IsOrdered w) (term : ℕ) (prev : Point) (entries : Path) (promise commit : ℕ) (w' : Window) (took : Took)
-    (took-is : took ≡ took_of w term prev entries promise) (after : w' ≡ after_offer w prev entries promise commit) where
-  pub reached-as : Reached w w' (prev.index + length entries) took.cut
-  reached-as =
-      subst (λ (x : Window). Reached w x (prev.index + length entries) took.cut) (sym after)
-      (subst (λ (t : Took). Reached w (after_offer w prev entries promise commit) (prev.index + length entries) t.cut) (sym took-is) (offer-reached w prev entries o term promise commit))
+module _ (w : Window) (o : IsOrdered w) (term : ℕ) (prev : Point) (entries : Path) (promise commit : ℕ) (w' : Window) (t : Taken)
+    (t-is : t ≡ taken_of w term prev entries promise) (after : w' ≡ after_offer w prev entries promise commit) where
+  pub reached-as : (reply : PeerMsg) (cut : Option Difference) → t ≡ taken.Replied reply cut → Reached w w' (prev.index + length entries) cut
+  reached-as reply cut is =
+      subst (λ (x : Window). Reached w x (prev.index + length entries) cut) (sym after)
+      (subst (λ (x : Taken). Reached w (after_offer w prev entries promise commit) (prev.index + length entries) (cut_of x)) (sym t-is ∙ is)
+      (offer-reached w prev entries o term promise commit))
 
-  pub halted-as : is_some took.halt ≡ true → w' ≡ w
-  halted-as halts = after ∙ halted-same w prev entries term promise commit (graft_of sha_link w prev entries) (ap (λ (t : Took). is_some t.halt) (sym took-is) ∙ halts)
+  pub halted-as : (d : Difference) → t ≡ taken.Conflict d.0 d.1 d.2 → w' ≡ w
+  halted-as d is =
+      after ∙ halted-same w prev entries term promise commit (graft_of sha_link w prev entries) (ap (λ (x : Taken). is_some (halt_of x)) (sym t-is ∙ is))
 
 -- the replica and the batch before the entries are applied
 module _ (h : Holder) (b : Batch) (from : ℕ) (w : Window) (cut : Option Difference) where

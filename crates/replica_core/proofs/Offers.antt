@@ -21,7 +21,7 @@ use Rattle.replica_model.specs.Send.{told}
 use Rattle.replica_model.specs.Graft.{Offer, Difference, end_of, first_difference, points_of, refusal_hint, halts, following, kept_length, added, members_of, undecided_at, undecided, spliced, replaced, grafted, accepts, answered, graft, conflict_or_graft, append_heard}
 use Rattle.replica_log.specs.Window.{Window, IsOrdered, base_index, last_index}
 use Rattle.replica_log.specs.Models.{StandsFor as LogStandsFor, IsNoConflict}
-use Rattle.append_rules.specs.declared.take.Took.{Took}
+use Rattle.append_rules.specs.declared.take.Taken.TheVariants.{Replied, Conflict}
 use Rattle.append_rules.specs.Taken.{TakesOffer, sent_to, unless_refused, cut_at}
 use Rattle.replica_core.specs.Logs.{LogsAreTheModels}
 use Rattle.replica_core.specs.declared.role.Role.TheVariants as kept
@@ -31,7 +31,7 @@ use Rattle.replica_core.specs.declared.send.Appends.TheVariants.{Nobody}
 use Rattle.replica_core.specs.Standing.{kept_ticket, HoldsFor}
 use Rattle.replica_core.specs.Keeping.{AreTickets, AreWithin}
 use Rattle.replica_core.specs.Applying.{kept_between, applied_all, before_applied, applied_from, holder_applied, batch_applied}
-use Rattle.replica_core.specs.Replacing.{kept_upto, members_above, tickets_left, given_up, reply_to}
+use Rattle.replica_core.specs.Replacing.{kept_upto, members_above, tickets_left, given_up}
 use Rattle.replica_core.specs.Calling.{Reaches, Does}
 use Rattle.replica_core.proofs.Bounds.{difference-within}
 use Rattle.replica_core.proofs.Commits.{Before, commits}
@@ -114,10 +114,6 @@ given-same : (cut : Option Difference) (ts : List model.Ticket) → given_up cut
 given-same None ts = refl
 given-same (Some d) ts = given-some d ts
 
-reply-same : (v : ℕ) (r : Option PeerMsg) → reply_to v r ≡ map (λ (x : ℕ × Message). (x.0, x.1.msg)) (sent_to v r)
-reply-same v None = refl
-reply-same v (Some msg) = refl
-
 filter-rising : (x c : ℕ) (ts : List Ticket) → AreTickets c ts → AreTickets c (filter (λ t. nat_lt t.index x) ts)
 filter-rising x c [] h = tt
 filter-rising x c (t ∷ ts) (above, rest) =
@@ -156,64 +152,67 @@ nothing-applied h b had is =
     ap (λ n. applied_all (before_applied h b) (numbered_from (had + 1) (kept_between h.log had n))) (sym is)
     ∙ ap (λ (p : Path). applied_all (before_applied h b) (numbered_from (had + 1) p)) (none_between h.log had)
 
--- ---- an append that is no conflict
+-- ---- an append that is taken
 
-module _ (logs : LogsAreTheModels) (h : Holder) (s : model.Replica) (st : HoldsFor h s) (ordered : IsOrdered h.log) (rising : AreTickets h.log.committed h.tickets)
-    (within : AreWithin (last_index h.log) h.tickets) (b : Batch) (empty : b ≡ empty_batch) (o : Offer) (w : Window) (ow : IsOrdered w) (took : Took)
-    (tk : TakesOffer s o w took) where
-  -- it halts
-  pub halts-does : is_some took.halt ≡ true → Does (record h { log = w; halted = took.halt }) (record b { halt = took.halt }) Nobody (append_heard sha_link s o)
-  halts-does some =
+module _ (logs : LogsAreTheModels) (h : Holder) (s : model.Replica) (st : HoldsFor h s) (b : Batch) (empty : b ≡ empty_batch) (o : Offer) (w : Window) where
+  -- it conflicts, and the replica halts
+  pub halts-does : (d : Difference) → TakesOffer s o w (Conflict d.0 d.1 d.2)
+      → Does (record h { log = w; halted = Some d }) (record b { halt = Some d }) Nobody (append_heard sha_link s o)
+  halts-does d tk =
       append-cases s o
-      (λ call cut. call.batch.halt ≡ took.halt → LogStandsFor sha_link w call.state → Does (record h { log = w; halted = took.halt }) (record b { halt = took.halt }) Nobody call)
+      (λ call cut. call.batch.halt ≡ Some d → LogStandsFor sha_link w call.state → Does (record h { log = w; halted = Some d }) (record b { halt = Some d }) Nobody call)
       (λ x is log. record {
         reaches = record {
           stands = record { me = st.me; term = st.term; vote = st.vote; known = st.known; log = log; table = st.table; role = st.role; tickets = st.tickets; halted = sym is };
-          batch_is = ap (λ (d : Batch). record d { halt = took.halt }) empty ∙ ap (λ x. record empty_batch { halt = x }) (sym is);
+          batch_is = ap (λ (c : Batch). record c { halt = Some d }) empty ∙ ap (λ x. record empty_batch { halt = x }) (sym is);
         };
         sends = refl;
       })
-      (λ hint is log. absurd (both_ways (is_some took.halt) (ap is_some (sym is)) some))
-      (λ cut found free is log. absurd (both_ways (is_some took.halt) (ap is_some (sym is)) some))
+      (λ hint is log. absurd (both_ways true (ap is_some (sym is)) refl))
+      (λ cut found free is log. absurd (both_ways true (ap is_some (sym is)) refl))
       tk.halts tk.stands
 
+module _ (logs : LogsAreTheModels) (h : Holder) (s : model.Replica) (st : HoldsFor h s) (ordered : IsOrdered h.log) (rising : AreTickets h.log.committed h.tickets)
+    (within : AreWithin (last_index h.log) h.tickets) (b : Batch) (empty : b ≡ empty_batch) (o : Offer) (w : Window) (ow : IsOrdered w) (reply : PeerMsg)
+    (cut_told : Option Difference) (tk : TakesOffer s o w (Replied reply cut_told)) where
   -- the replica that follows, before entries are applied
   abbrev taken : Holder
-  taken = record h { log = w; role = kept.Follower; known = o.from; tickets = tickets_left took.cut h.tickets }
+  taken = record h { log = w; role = kept.Follower; known = o.from; tickets = tickets_left cut_told h.tickets }
 
   abbrev told_so_far : Batch
-  told_so_far = record b { members = b.members ++ members_above w (kept_upto (last_index h.log) took.cut); answers = b.answers ++ given_up took.cut h.tickets }
+  told_so_far = record b { members = b.members ++ members_above w (kept_upto (last_index h.log) cut_told); answers = b.answers ++ given_up cut_told h.tickets }
 
   abbrev replied : ℕ → Batch
   replied had =
       let d : Batch = batch_applied told_so_far (applied_from taken told_so_far had) in
-      record d { sent = d.sent ++ reply_to o.from took.reply }
+      record d { sent = d.sent ++ (o.from, reply) ∷ [] }
 
-  same-tickets : took.cut ≡ None → tickets_left took.cut h.tickets ≡ h.tickets
+  same-tickets : cut_told ≡ None → tickets_left cut_told h.tickets ≡ h.tickets
   same-tickets is = ap (λ c. tickets_left c h.tickets) is
 
   last-is : last_index h.log ≡ length s.path
   last-is = last-model logs h.log s st.log
 
-  replies-with : (msg : PeerMsg) → (o.from, plain msg) ∷ [] ≡ sent_to o.from took.reply → reply_to o.from took.reply ≡ (o.from, msg) ∷ []
-  replies-with msg is = reply-same o.from took.reply ∙ sym (ap (map (λ (x : ℕ × Message). (x.0, x.1.msg))) is)
+  -- the messages of what is sent
+  abbrev msgs : List (ℕ × Message) → List (ℕ × PeerMsg)
+  msgs sent = map (λ (x : ℕ × Message). (x.0, x.1.msg)) sent
 
   -- what is told where nothing is taken
-  told-nothing : took.cut ≡ None → last_index w ≡ length s.path → told_so_far ≡ empty_batch
+  told-nothing : cut_told ≡ None → last_index w ≡ length s.path → told_so_far ≡ empty_batch
   told-nothing cut-is at =
-      let members : members_above w (kept_upto (last_index h.log) took.cut) ≡ [] =
+      let members : members_above w (kept_upto (last_index h.log) cut_told) ≡ [] =
       ap (λ c. members_above w (kept_upto (last_index h.log) c)) cut-is
       ∙ ap (λ (p : Path). filter_map members_of (numbered_from (last_index h.log + 1) p))
       (nil_from_length (drop (last_index h.log - base_index w) w.entries)
       (let d = length-drop (last_index h.log - base_index w) w.entries in let l = last-is in omega (arith, d, l, at))) in
-      let answers : given_up took.cut h.tickets ≡ [] = ap (λ c. given_up c h.tickets) cut-is in
-      ap (λ xs. record b { members = b.members ++ xs; answers = b.answers ++ given_up took.cut h.tickets }) members
+      let answers : given_up cut_told h.tickets ≡ [] = ap (λ c. given_up c h.tickets) cut-is in
+      ap (λ xs. record b { members = b.members ++ xs; answers = b.answers ++ given_up cut_told h.tickets }) members
       ∙ (ap (λ xs. record b { members = b.members ++ []; answers = b.answers ++ xs }) answers
       ∙ ap (λ (d : Batch). record d { members = d.members ++ []; answers = d.answers ++ [] }) empty)
 
   module _ (had : ℕ) (had-is : had ≡ h.log.committed) where
-    refused-does : (hint : ℕ) → took.cut ≡ None → LogStandsFor sha_link w s
-        → (o.from, plain (Rejected s.term o.prev.index hint)) ∷ [] ≡ sent_to o.from took.reply
+    refused-does : (hint : ℕ) → cut_told ≡ None → LogStandsFor sha_link w s
+        → (o.from, plain (Rejected s.term o.prev.index hint)) ∷ [] ≡ sent_to o.from (Some reply)
         → Does (holder_applied taken (applied_from taken told_so_far had)) (replied had) Nobody (says (following s o.from) o.from (Rejected s.term o.prev.index hint))
     refused-does hint cut-is log sent =
         let msg : PeerMsg = Rejected s.term o.prev.index hint in
@@ -235,13 +234,13 @@ module _ (logs : LogsAreTheModels) (h : Holder) (s : model.Replica) (st : HoldsF
               halted = st.halted;
             });
             batch_is =
-                ap (λ (d : Batch). record d { sent = d.sent ++ reply_to o.from took.reply }) told-is
-                ∙ ap (λ xs. record empty_batch { sent = xs }) (replies-with msg sent);
+                ap (λ (d : Batch). record d { sent = d.sent ++ (o.from, reply) ∷ [] }) told-is
+                ∙ ap (λ xs. record empty_batch { sent = xs }) (sym (ap msgs sent));
           };
           sends = refl;
         }
 
-    module _ (cut : Option Difference) (found : first_difference sha_link s (points_of sha_link o) ≡ cut) (free : IsNoConflict s cut) (cut-is : took.cut ≡ cut) where
+    module _ (cut : Option Difference) (found : first_difference sha_link s (points_of sha_link o) ≡ cut) (free : IsNoConflict s cut) (cut-is : cut_told ≡ cut) where
       -- how many entries stay
       abbrev stay : ℕ
       stay = kept_length s.path cut
@@ -266,14 +265,14 @@ module _ (logs : LogsAreTheModels) (h : Holder) (s : model.Replica) (st : HoldsF
               let most = difference-within s (points_of sha_link o) x found in
               (omega (arith, a, f, g, free), omega (arith, most))
 
-      kept-same : kept_upto (last_index h.log) took.cut ≡ stay
+      kept-same : kept_upto (last_index h.log) cut_told ≡ stay
       kept-same = ap (kept_upto (last_index h.log)) cut-is ∙ of_cut cut
         where
           of_cut : (c : Option Difference) → kept_upto (last_index h.log) c ≡ kept_length s.path c
           of_cut None = last-is
           of_cut (Some x) = refl
 
-      left-same : tickets_left took.cut h.tickets ≡ map kept_ticket (filter (λ t. nat_le t.index stay) s.tickets)
+      left-same : tickets_left cut_told h.tickets ≡ map kept_ticket (filter (λ t. nat_le t.index stay) s.tickets)
       left-same =
           ap (λ c. tickets_left c h.tickets) cut-is
           ∙ (ap (tickets_left cut) st.tickets
@@ -286,7 +285,7 @@ module _ (logs : LogsAreTheModels) (h : Holder) (s : model.Replica) (st : HoldsF
       base-is log = base-model logs w (commit_to spliced_call upto).state log
 
       members-same : LogStandsFor sha_link w (commit_to spliced_call upto).state
-          → members_above w (kept_upto (last_index h.log) took.cut) ≡ filter_map members_of (numbered_from (stay + 1) (added stay o))
+          → members_above w (kept_upto (last_index h.log) cut_told) ≡ filter_map members_of (numbered_from (stay + 1) (added stay o))
       members-same log =
           let low = base-below logs h.log s st.log ordered in
           let up = stays.0 in
@@ -301,7 +300,7 @@ module _ (logs : LogsAreTheModels) (h : Holder) (s : model.Replica) (st : HoldsF
 
       told-same : LogStandsFor sha_link w (commit_to spliced_call upto).state → told_so_far ≡ (told spliced_call).batch
       told-same log =
-          ap (λ xs. record b { members = b.members ++ xs; answers = b.answers ++ given_up took.cut h.tickets }) (members-same log)
+          ap (λ xs. record b { members = b.members ++ xs; answers = b.answers ++ given_up cut_told h.tickets }) (members-same log)
           ∙ (ap (λ xs. record b { members = b.members ++ filter_map members_of (numbered_from (stay + 1) (added stay o)); answers = b.answers ++ xs })
           (ap (λ c. given_up c h.tickets) cut-is ∙ (ap (given_up cut) st.tickets ∙ given-same cut s.tickets))
           ∙ ap (λ (d : Batch). record d { members = d.members ++ filter_map members_of (numbered_from (stay + 1) (added stay o)); answers = d.answers ++ undecided cut s.tickets }) empty)
@@ -324,36 +323,34 @@ module _ (logs : LogsAreTheModels) (h : Holder) (s : model.Replica) (st : HoldsF
           }
 
       grafted-does : LogStandsFor sha_link w (accepts sha_link (grafted (following s o.from) cut o) o).state
-          → (accepts sha_link (grafted (following s o.from) cut o) o).sent ≡ sent_to o.from took.reply
+          → (accepts sha_link (grafted (following s o.from) cut o) o).sent ≡ sent_to o.from (Some reply)
           → Does (holder_applied taken (applied_from taken told_so_far had)) (replied had) Nobody (accepts sha_link (grafted (following s o.from) cut o) o)
       grafted-does log sent =
           let low = base-below logs h.log s st.log ordered in
           let base = base-is log in
-          let rising-left : AreTickets s.committed (tickets_left took.cut h.tickets) =
-          left-rising took.cut s.committed h.tickets (subst (λ n. AreTickets n h.tickets) st.log.is_committed rising) in
+          let rising-left : AreTickets s.committed (tickets_left cut_told h.tickets) =
+          left-rising cut_told s.committed h.tickets (subst (λ n. AreTickets n h.tickets) st.log.is_committed rising) in
           let done = commits logs taken told_so_far spliced_call upto (before-commit log) ow rising-left (omega (arith, base, low)) (told-same log) in
           let at : had ≡ s.committed = had-is ∙ st.log.is_committed in
           let end = subst (λ n. Reaches (holder_applied taken (applied_from taken told_so_far n)) (batch_applied told_so_far (applied_from taken told_so_far n)) (commit_to spliced_call upto))
           (sym at) done in
-          let reply = reply-same o.from took.reply ∙ sym (ap (map (λ (x : ℕ × Message). (x.0, x.1.msg))) sent) in
           record {
             reaches = record {
               stands = end.stands;
               batch_is =
-                  ap (λ (d : Batch). record d { sent = d.sent ++ reply_to o.from took.reply }) end.batch_is
-                  ∙ ap (λ xs. record ((told (commit_to spliced_call upto)).batch) { sent = xs }) reply;
+                  ap (λ (d : Batch). record d { sent = d.sent ++ (o.from, reply) ∷ [] }) end.batch_is
+                  ∙ ap (λ xs. record ((told (commit_to spliced_call upto)).batch) { sent = xs }) (sym (ap msgs sent));
             };
             sends = refl;
           }
 
     -- it takes what is offered, or refuses it
-    pub taken-does : is_some took.halt ≡ false
-        → Does (holder_applied taken (applied_from taken told_so_far had)) (replied had) Nobody (append_heard sha_link s o)
-    taken-does none =
+    pub taken-does : Does (holder_applied taken (applied_from taken told_so_far had)) (replied had) Nobody (append_heard sha_link s o)
+    taken-does =
         append-cases s o
-        (λ call cut. took.cut ≡ cut → call.batch.halt ≡ took.halt → LogStandsFor sha_link w call.state → call.sent ≡ sent_to o.from took.reply
+        (λ call cut. cut_told ≡ cut → call.batch.halt ≡ None → LogStandsFor sha_link w call.state → call.sent ≡ sent_to o.from (Some reply)
         → Does (holder_applied taken (applied_from taken told_so_far had)) (replied had) Nobody call)
-        (λ x cut-is is log sent. absurd (both_ways (is_some took.halt) none (ap is_some (sym is))))
+        (λ x cut-is is log sent. absurd (both_ways false refl (ap is_some (sym is))))
         (λ hint cut-is is log sent. refused-does hint cut-is log sent)
         (λ cut found free cut-is is log sent. grafted-does cut found free cut-is log sent)
         tk.cuts tk.halts tk.stands tk.replies

@@ -1,11 +1,10 @@
 -- What the entries that an append brings make of a batch and of the tickets.
-use Rattle.std.specs.Prelude.{ℕ, ◌+◌, ◌-◌, nat_lt, nat_le, Option, Some, None, List, [], ◌∷◌, drop, map, filter, filter_map}
+use Rattle.std.specs.Prelude.{ℕ, ◌+◌, ◌-◌, nat_lt, nat_le, Option, Some, None, List, [], drop, map, filter, filter_map}
 use Rattle.std.specs.Option.{option_to_list}
 use Rattle.values.specs.declared.entry.LogEntry.{LogEntry}
 use Rattle.values.specs.declared.ids.ClientId.{ClientId}
 use Rattle.values.specs.declared.message.Answer.{Answer}
 use Rattle.values.specs.declared.message.Answer.TheVariants.{Undecided}
-use Rattle.values.specs.declared.peer.PeerMsg.{PeerMsg}
 use Rattle.replica_model.specs.Graft.{Difference, members_of}
 use Rattle.replica_model.specs.Raise.{numbered_from}
 use Rattle.replica_log.specs.Window.{Window, base_index}
@@ -33,8 +32,3 @@ tickets_left (Some d) tickets = filter (λ t. nat_lt t.index d.0) tickets
 abbrev pub given_up : Option Difference → List Ticket → List (ClientId × ℕ × Answer)
 given_up None tickets = []
 given_up (Some d) tickets = map (λ (t : Ticket). (t.client, t.number, Undecided d.0 d.1 d.2)) (filter (λ t. nat_le d.0 t.index) tickets)
-
--- a reply as a message
-abbrev pub reply_to : ℕ → Option PeerMsg → List (ℕ × PeerMsg)
-reply_to to None = []
-reply_to to (Some msg) = (to, msg) ∷ []

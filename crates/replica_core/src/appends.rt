@@ -6,7 +6,7 @@ ghost use Rattle.group_quorum.specs.Voters.{IsId};
 ghost use Rattle.replica_core.specs.InRange.{ActsInRange};
 ghost use Rattle.replica_core.specs.Leads.{holder_leading, lacks_entries_at, is_sent_anew_at, appends_after, after_accepted, after_rejected};
 ghost use Rattle.replica_log.specs.Window.{base_index, last_index, entry_at, matches};
-ghost use Rattle.replica_core.specs.Replacing.{members_in, members_above, kept_upto, reply_to};
+ghost use Rattle.replica_core.specs.Replacing.{members_in, members_above, kept_upto};
 ghost use Rattle.values.specs.declared.peer.PeerMsg.TheVariants.{Append};
 ghost use Rattle.group_msgs.specs.Ranges.{IsIndex, IsAppendInRange};
 ghost use Rattle.replica_model.specs.Linked.{sha_link};
@@ -20,7 +20,7 @@ ghost use Rattle.replica_core.specs.Calling.{Follows};
 use crate::holder::{Holder, logs_are_the_models};
 use crate::role::{Leading, Role};
 use crate::send::Appends;
-use append_rules::{take_accepted, take_append, take_rejected};
+use append_rules::{Taken, take_accepted, take_append, take_rejected};
 use replica_log::{Log, hashes_are_the_models};
 use values::{Batch, Body, Entries, Hash, Memory, PeerMsg, Point, ReplicaId, TryCopy};
 
@@ -53,7 +53,7 @@ impl Holder {
         logs_are_the_models();
         let last = self.last();
         let committed = self.log.committed();
-        let took = take_append(
+        let taken = take_append(
             &mut self.log,
             self.ballot.term,
             offer.prev,
@@ -61,17 +61,24 @@ impl Holder {
             offer.promise,
             offer.commit,
         )?;
-        if took.halt.is_some() {
-            self.halted = took.halt;
-            batch.halt = took.halt;
-            return Ok(Appends::Nobody);
+        match taken {
+            Taken::Conflict {
+                index,
+                kept,
+                offered,
+            } => {
+                let halt = Some((index, kept, offered));
+                self.halted = halt;
+                batch.halt = halt;
+            }
+            Taken::Replied { reply, cut } => {
+                self.follow(from);
+                self.tell_members(kept_upto(last, cut), batch)?;
+                self.tickets.give_up(cut, &mut batch.answers)?;
+                self.apply_committed(committed, batch)?;
+                batch.sent.push((from, reply))?;
+            }
         }
-        self.follow(from);
-        let kept = kept_upto(last, took.cut);
-        self.tell_members(kept, batch)?;
-        self.tickets.give_up(took.cut, &mut batch.answers)?;
-        self.apply_committed(committed, batch)?;
-        send_reply(from, took.reply, batch)?;
         Ok(Appends::Nobody)
     }
 
@@ -272,15 +279,5 @@ fn kept_upto(last: u64, cut: Option<(u64, Hash, Hash)>) -> u64
     match cut {
         Some((index, ..)) => index.saturating_sub(1),
         None => last,
-    }
-}
-
-/// Sends a reply, if there is one.
-fn send_reply(to: ReplicaId, reply: Option<PeerMsg>, batch: &mut Batch) -> Result<(), Memory>
-    ensures { OnOk result (batch.new ≡ record batch.old { sent = batch.old.sent ++ reply_to to reply }) }
-{
-    match reply {
-        Some(reply) => batch.sent.push((to, reply)),
-        None => Ok(()),
     }
 }

@@ -25,7 +25,7 @@ impl<T> Model for ByReplica<T> {
 }
 
 impl<T: Drop> ByReplica<T> {
-    /// Nothing under any id.
+    /// An empty map.
     pub fn new(alloc: Global) -> ByReplica<T>
         ensures { result ≡ [] }
     {
@@ -34,7 +34,7 @@ impl<T: Drop> ByReplica<T> {
         }
     }
 
-    /// What stands under an id.
+    /// The value of an id.
     pub fn get(&self, id: ReplicaId) -> Option<&T>
         ensures { option_copied result ≡ value_at self.now id }
     {
@@ -66,14 +66,14 @@ impl<T: Drop> ByReplica<T> {
         Ok(())
     }
 
-    /// Takes away what stands under an id.
+    /// Removes the value of an id.
     pub fn remove(&mut self, id: ReplicaId)
         ensures { self.new ≡ without self.old id }
     {
         self.items.retain(|item| item.0 != id);
     }
 
-    /// The ids with what stands under them.
+    /// The ids with their values.
     pub fn as_slice(&self) -> &[(ReplicaId, T)]
         ensures { result.now ≡ self.now }
     {

@@ -1,4 +1,4 @@
-//! Equal replicas.
+//! Copies of replicas.
 ghost use Rattle.std.specs.Prelude.{◌≡◌, IfOk};
 
 use crate::by_replica::ByReplica;
@@ -11,7 +11,7 @@ use table_transfer::Sending;
 use values::Memory;
 
 impl Learner {
-    /// An equal one.
+    /// A copy of it.
     pub fn copy(&self) -> Result<Learner, Memory>
         ensures { IfOk result (λ learner. learner ≡ self.now) }
     {
@@ -25,7 +25,7 @@ impl Learner {
 }
 
 impl Holder {
-    /// An equal one.
+    /// A copy of it.
     pub fn copy(&self) -> Result<Holder, Memory>
         ensures { IfOk result (λ holder. holder ≡ self.now) }
     {
@@ -44,7 +44,7 @@ impl Holder {
 }
 
 impl Role {
-    /// An equal one.
+    /// A copy of it.
     fn copy(&self, alloc: Global) -> Result<Role, Memory>
         ensures { IfOk result (λ role. role ≡ self.now) }
     {
@@ -57,7 +57,7 @@ impl Role {
 }
 
 impl Leading {
-    /// An equal one.
+    /// A copy of it.
     fn copy(&self, alloc: Global) -> Result<Leading, Memory>
         ensures { IfOk result (λ leading. leading ≡ self.now) }
     {

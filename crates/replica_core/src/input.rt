@@ -27,7 +27,7 @@ pub enum Input<'a> {
     Admit {
         id: ReplicaId,
     },
-    /// The voter of this id is to be none any more.
+    /// The voter of this id is to be removed.
     Remove {
         id: ReplicaId,
     },
@@ -42,7 +42,7 @@ pub enum Input<'a> {
 pub enum StepFault {
     /// Memory ran out. The replica is spent, and nothing of the batch counts.
     Memory,
-    /// The replica was spent: an earlier step wanted memory, or it is a copy of a spent one.
+    /// The replica was spent: memory ran out in an earlier step, or it is a copy of a spent one.
     Spent,
 }
 

@@ -45,7 +45,7 @@ pub(crate) enum State {
     Learner(Learner),
     /// It holds a log.
     Holder(Holder),
-    /// A step wanted memory, and it is of no use any more.
+    /// Memory ran out in a step, and the replica can no longer be used.
     Spent,
 }
 
@@ -136,7 +136,7 @@ impl Replica {
         }
     }
 
-    /// Its id; none is known of a replica that is spent.
+    /// Its id, or `None` where it is spent.
     pub fn id(&self) -> Option<ReplicaId>
         ensures spent { (result ≡ None) ↔ IsSpent self.now }
         ensures model { (s : model.Replica) → StandsFor self.now s → IfSome result (λ id. id ≡ s.me) }
@@ -149,7 +149,7 @@ impl Replica {
         }
     }
 
-    /// An equal replica.
+    /// A copy of it.
     pub fn copy(&self) -> Result<Replica, Memory>
         ensures { IfOk result (λ replica. replica ≡ self.now) }
     {

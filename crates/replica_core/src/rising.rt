@@ -23,7 +23,7 @@ impl Model for RisingIds {
 }
 
 impl RisingIds {
-    /// No ids.
+    /// An empty list.
     pub fn new(alloc: Global) -> RisingIds
         ensures { result ≡ [] }
     {
@@ -32,7 +32,7 @@ impl RisingIds {
         }
     }
 
-    /// These ids.
+    /// A list of these ids.
     pub fn from_slice(alloc: Global, ids: &[ReplicaId]) -> Result<RisingIds, Memory>
         ensures { IfOk result (λ rising. rising ≡ ids.now) }
     {
@@ -102,7 +102,7 @@ impl RisingIds {
         self.ids.retain(|other| *other != id);
     }
 
-    /// Equal ones.
+    /// A copy of them.
     pub fn copy(&self) -> Result<RisingIds, Memory>
         ensures { IfOk result (λ ids. ids ≡ self.now) }
     {

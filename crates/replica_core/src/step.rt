@@ -23,7 +23,7 @@ use crate::input::Input;
 use crate::role::Role;
 use crate::send::Appends;
 use values::{Batch, Memory, PeerMsg, Refusal, ReplicaId};
-use vote_rules::Ballot;
+use vote_rules::{Ballot, LastEntry};
 
 impl Holder {
     /// Takes a step. Where the replica halts in it, nothing comes after that.
@@ -175,7 +175,13 @@ impl Holder {
                 last_index,
                 last_term,
                 ..
-            } => self.vote_asked(from, *last_index, *last_term, batch),
+            } => {
+                let asked = LastEntry {
+                    index: *last_index,
+                    term: *last_term,
+                };
+                self.vote_asked(from, asked, batch)
+            }
             PeerMsg::Vote { granted, .. } => self.vote_heard(from, *granted, batch),
             PeerMsg::Append {
                 prev,

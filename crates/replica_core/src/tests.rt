@@ -134,7 +134,7 @@ impl Group {
         })
     }
 
-    /// An equal one of a replica, if it is of the group.
+    /// A copy of a replica, if it is of the group.
     fn copy_of(&self, id: ReplicaId) -> Result<Option<Replica>, Fail>
         requires { IsId id }
     {

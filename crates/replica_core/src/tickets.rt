@@ -32,7 +32,7 @@ impl Model for Tickets {
 }
 
 impl Tickets {
-    /// No tickets.
+    /// An empty queue.
     pub fn new(alloc: Global) -> Tickets
         ensures { result ≡ [] }
     {
@@ -97,7 +97,7 @@ impl Tickets {
         Ok(())
     }
 
-    /// Equal ones.
+    /// A copy of them.
     pub fn copy(&self) -> Result<Tickets, Memory>
         ensures { IfOk result (λ copy. copy ≡ self.now) }
     {

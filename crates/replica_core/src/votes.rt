@@ -15,7 +15,7 @@ use crate::role::{Leading, Role};
 use crate::send::Appends;
 use replica_model::TOP;
 use values::{Batch, Body, Memory, PeerMsg, ReplicaId};
-use vote_rules::{Votes, judge_ask, stand};
+use vote_rules::{LastEntry, Votes, judge_ask, stand};
 
 impl Holder {
     /// Stands for election. Nothing happens where it is no voter of its newest configuration, or where its term or its
@@ -86,31 +86,25 @@ impl Holder {
         Ok(Appends::Everyone)
     }
 
-    /// Is asked for its vote, in its own term, by one whose last entry has this index and this term.
+    /// Is asked for its vote, in its own term, by one with this last entry.
     pub fn vote_asked(
         &mut self,
         from: ReplicaId,
-        asked_index: u64,
-        asked_term: u64,
+        asked: LastEntry,
         batch: &mut Batch,
     ) -> Result<Appends, Memory>
         requires sound { IsSound self.old }
         requires empty { batch.old ≡ empty_batch }
         ensures sound { OnOk result (IsSound self.new) }
-        ensures model { Follows self.old self.new batch.new result (λ s. vote_asked s from asked_index asked_term) }
+        ensures model { Follows self.old self.new batch.new result (λ s. vote_asked s from asked.index asked.term) }
         ensures in_range { IsId from → ActsInRange self.old batch.old result self.new batch.new }
     {
         logs_are_the_models();
-        let last_term = self.log.last_term();
-        let last_index = self.last();
-        let granted = judge_ask(
-            &mut self.ballot,
-            last_index,
-            last_term,
-            from,
-            asked_index,
-            asked_term,
-        );
+        let own = LastEntry {
+            index: self.last(),
+            term: self.log.last_term(),
+        };
+        let granted = judge_ask(&mut self.ballot, own, from, asked);
         let vote = PeerMsg::Vote {
             term: self.ballot.term,
             granted,

@@ -7,7 +7,7 @@ use host_inputs::HostFault;
 pub enum Served {
     /// The source was read to its end, between two frames, and all was written.
     Done,
-    /// Want of memory.
+    /// Memory ran out.
     Memory,
     /// The source failed.
     ReadFault,
@@ -15,7 +15,7 @@ pub enum Served {
     WriteFault,
     /// The frame whose first byte has this offset is bad.
     Frame { at: u64, cause: FrameCause },
-    /// A byte stands behind [`values::MAX_FRAMES`] whole frames, or a batch content has more than [`values::MAX_BATCH`] bytes.
+    /// More bytes follow [`values::MAX_FRAMES`] whole frames, or a batch content has more than [`values::MAX_BATCH`] bytes.
     Limit,
 }
 

@@ -6,7 +6,7 @@ ghost use Rattle.std.specs.Prelude.{◌≡◌};
 pub enum Status {
     /// The source was read to its end, and everything was written.
     Done,
-    /// Want of memory.
+    /// Memory ran out.
     Memory,
     /// The words are no command.
     Usage,

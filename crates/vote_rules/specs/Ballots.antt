@@ -3,17 +3,18 @@ use Rattle.std.specs.Prelude.{◌≡◌, ℕ, Bool, ◌&&◌, ◌||◌, ◌==◌
 use Rattle.replica_model.specs.Path.{last_term}
 use Rattle.replica_model.specs.Replica.{Replica}
 use Rattle.vote_rules.specs.declared.ballot.Ballot.{Ballot}
+use Rattle.vote_rules.specs.declared.ballot.LastEntry.{LastEntry}
 
 -- no other id has the vote
 abbrev pub is_free : Ballot → ℕ → Bool
 is_free b from = b.vote == 0 || b.vote == from
 
--- an entry of this index and term is at least as new as the last one: compared by term, and then by index
-abbrev pub is_as_new : ℕ → ℕ → ℕ → ℕ → Bool
-is_as_new last_index last_term index term = nat_lt last_term term || (term == last_term && nat_le last_index index)
+-- the second entry is at least as new as the first one: compared by term, and then by index
+abbrev pub is_as_new : LastEntry → LastEntry → Bool
+is_as_new own asked = nat_lt own.term asked.term || (asked.term == own.term && nat_le own.index asked.index)
 
--- the replica's vote is the ballot's, and its last entry has this index and this term
-pub record HasBallot (s : Replica) (b : Ballot) (index term : ℕ) : Type 0 where
+-- the replica's vote is the ballot's, and this is its last entry
+pub record HasBallot (s : Replica) (b : Ballot) (last : LastEntry) : Type 0 where
   pub vote : s.vote ≡ b.vote
-  pub last_index : length s.path ≡ index
-  pub last_term : last_term s.path ≡ term
+  pub last_index : length s.path ≡ last.index
+  pub last_term : last_term s.path ≡ last.term

@@ -9,5 +9,5 @@ mod ballot;
 mod tests;
 mod votes;
 
-pub use ballot::{Ballot, judge_ask, stand};
+pub use ballot::{Ballot, LastEntry, judge_ask, stand};
 pub use votes::Votes;

@@ -1,17 +1,22 @@
 //! Each public call on its happy path, and the rows of ballots.
 
-use crate::{Ballot, Votes, judge_ask, stand};
+use crate::{Ballot, LastEntry, Votes, judge_ask, stand};
 use group_quorum::Config;
 use replica_log::Configs;
 use std::test::Fail;
 
+fn last_entry(index: u64, term: u64) -> LastEntry {
+    LastEntry { index, term }
+}
+
 #[test]
 fn the_later_term_wins(rt: HostRuntime) -> Result<(), Fail> {
     let mut ballot = Ballot { term: 5, vote: 0 };
-    assert!(rt; judge_ask(&mut ballot, 3, 1, 2, 2, 2));
+    let own = last_entry(3, 1);
+    assert!(rt; judge_ask(&mut ballot, own, 2, last_entry(2, 2)));
     assert_eq!(rt; ballot, Ballot { term: 5, vote: 2 });
-    assert!(rt; !judge_ask(&mut ballot, 3, 1, 3, 2, 2));
-    assert!(rt; judge_ask(&mut ballot, 3, 1, 2, 3, 1));
+    assert!(rt; !judge_ask(&mut ballot, own, 3, last_entry(2, 2)));
+    assert!(rt; judge_ask(&mut ballot, own, 2, last_entry(3, 1)));
     stand(&mut ballot, 1);
     assert_eq!(rt; ballot, Ballot { term: 6, vote: 1 });
     Ok(())
@@ -20,8 +25,9 @@ fn the_later_term_wins(rt: HostRuntime) -> Result<(), Fail> {
 #[test]
 fn an_older_term_loses(rt: HostRuntime) -> Result<(), Fail> {
     let mut ballot = Ballot { term: 5, vote: 0 };
-    assert!(rt; !judge_ask(&mut ballot, 3, 2, 2, 9, 1));
-    assert!(rt; !judge_ask(&mut ballot, 3, 2, 2, 2, 2));
+    let own = last_entry(3, 2);
+    assert!(rt; !judge_ask(&mut ballot, own, 2, last_entry(9, 1)));
+    assert!(rt; !judge_ask(&mut ballot, own, 2, last_entry(2, 2)));
     assert_eq!(rt; ballot, Ballot { term: 5, vote: 0 });
     Ok(())
 }

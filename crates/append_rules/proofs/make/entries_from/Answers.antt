@@ -1,4 +1,4 @@
-use Rattle.std.proofs.Common.{◌≡◌, ◌+◌, ◌∷◌, [], ◌++◌, sym, ap, ◌∙◌, arith}
+use Rattle.std.proofs.Common.{◌≡◌, ◌∷◌, [], ◌++◌, sym, ap, ◌∙◌, arith}
 use Rattle.replica_log.specs.Window.{last_index}
 use Rattle.append_rules.proofs.Copied.{copies, no_entry}
 use Rattle.append_rules.proofs.make.entries_from.Goals as goal

@@ -1,4 +1,4 @@
-use Rattle.std.proofs.Common.{◌≡◌, min, max, None, Some, sym, ap, subst, ◌∙◌}
+use Rattle.std.proofs.Common.{◌≡◌, min, max, sym, ap, subst, ◌∙◌}
 use Rattle.values.specs.declared.peer.PeerMsg.TheVariants.{Accepted}
 use Rattle.replica_model.specs.Linked.{sha_link}
 use Rattle.replica_model.specs.Replica.{Replica}
@@ -6,6 +6,7 @@ use Rattle.replica_model.specs.Graft.{end_of}
 use Rattle.replica_log.specs.Window.{Window}
 use Rattle.replica_log.specs.Grafting.{after_graft}
 use Rattle.replica_log.specs.Models.{StandsFor, Answers, IsGrafted, with_graft}
+use Rattle.append_rules.specs.declared.take.Taken.TheVariants.{Replied}
 use Rattle.append_rules.specs.Taken.{TakesOffer}
 use Rattle.append_rules.proofs.Offered.{takes_conflict, takes_refused, takes_grafted}
 use Rattle.append_rules.proofs.take.take_append.Goals as goal
@@ -48,5 +49,5 @@ returns-in-Grafted-clause-model c = λ s stands o terms.
     (subst (λ m. StandsFor sha_link u (record t { promised = max s.promised c.min-offered.result; committed = max s.committed m })) commit committed_stands) in
     let promised : c.promised.result ≡ max s.promised (min o.promise (end_of o)) = c.promised.ensures.promised ∙ after.is_promised in
     let reply : c.min-promised.result ≡ min c.promised.result (end_of o) = c.min-promised.ensures ∙ ap (min c.promised.result) end in
-    subst (λ n. TakesOffer s o u (record { reply = Some (Accepted c.args.term c.in-Grafted.end n); cut = c.in-Grafted.cut; halt = None })) (sym reply)
+    subst (λ n. TakesOffer s o u (Replied (Accepted c.args.term c.in-Grafted.end n) c.in-Grafted.cut)) (sym reply)
     (takes_grafted s o c.in-Grafted.end c.in-Grafted.cut c.args.term c.promised.result w u is terms.term_is after promised)

@@ -43,20 +43,20 @@ returns-in_err-play_cut-in-Whole-clause-plays g c =
     played_stop _ _ _ _ g.met.P.Player.history _ _ _ _ piece start inv.played c.in-Whole.end (plain_feed piece start c.in-Whole.end line) _ (plain_says piece start c.in-Whole.end line) _ _ _ _ _
     c.in_err-play_cut-in-Whole.was (p.1 ∙ ap Err p.2) c.play_cut.ensures.plays
 
-pub returns-in-Open-clause-plays : goal.returns-in-Open-clause-plays
-returns-in-Open-clause-plays g c =
+pub returns-in-Partial-clause-plays : goal.returns-in-Partial-clause-plays
+returns-in-Partial-clause-plays g c =
     let inv = c.loop-cut.invariant in
     let piece = c.args.piece.now in
     let start = c.loop-cut.cutter.from in
-    let cuts = rw (inv.piece, c.in-Open.is) at c.in-Ok.ensures.cuts in
+    let cuts = rw (inv.piece, c.in-Partial.is) at c.in-Ok.ensures.cuts in
     played_all _ _ _ _ g.met.P.Player.history _ _ _ _ piece start inv.played (plain_lacks (drop start piece) cuts.0)
 
-pub returns-in-Open-clause-rest : goal.returns-in-Open-clause-rest
-returns-in-Open-clause-rest g c =
+pub returns-in-Partial-clause-rest : goal.returns-in-Partial-clause-rest
+returns-in-Partial-clause-rest g c =
     let inv = c.loop-cut.invariant in
     let piece = c.args.piece.now in
     let start = c.loop-cut.cutter.from in
-    let cuts = rw (inv.piece, c.in-Open.is) at c.in-Ok.ensures.cuts in
+    let cuts = rw (inv.piece, c.in-Partial.is) at c.in-Ok.ensures.cuts in
     played_rest _ _ _ _ g.met.P.Player.history _ _ _ _ piece start inv.played (plain_lacks (drop start piece) cuts.0)
 
 pub returns-in_default-feed_from-clause-plays : goal.returns-in_default-feed_from-clause-plays

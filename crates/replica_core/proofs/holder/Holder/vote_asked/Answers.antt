@@ -22,8 +22,8 @@ returns-clause-model c = λ s st.
     let granted = c.judge_ask-granted.result in
     let call = c.judge_ask-granted.ensures.model s (record {
       vote = sym st.vote;
-      last_index = sym (c.last-last_index.ensures.last ∙ last-model c.logs_are_the_models.ensures h.log s st.log);
-      last_term = sym (c.last_term-last_term.ensures.model s st.log);
+      last_index = sym (c.last.ensures.last ∙ last-model c.logs_are_the_models.ensures h.log s st.log);
+      last_term = sym (c.last_term.ensures.model s st.log);
     }) in
     let term : new.term ≡ s.term =
     ap (λ (x : Ballot). x.term) c.judge_ask-granted.ensures.ballot
