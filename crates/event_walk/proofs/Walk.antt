@@ -220,3 +220,20 @@ begins link = record {
 -- a fact of a run of which it is known that before it has begun it has nothing
 pub begun_keeps : (link : Link) (K : World → Type 0) → Survives link HasBegun K → K empty_world → (events : List Event) → HasBegun (run link events) × K (run link events)
 begun_keeps link K s k events = run_keeps link HasBegun (λ w. HasBegun w × K w) (λ w k. k.0) (both link HasBegun K (begins link) s) ((λ unset. (refl, refl)), k) events
+
+-- the model's enclaves answer no frame that is no batch
+pub unbroken : (link : Link) (w : World) (e : Event) (at : _) (f : Enclaves) → happens (enclaves link) e w ≡ Broken at f → ⊥
+unbroken link w e at f is = subst (LeavesIt (λ w. Unit {0})) is (happens_leaves link (λ w. Unit {0}) (λ w. Unit {0}) (λ w k. tt) nothing w e tt)
+  where
+    nothing : Survives link (λ w. Unit {0}) (λ w. Unit {0})
+    nothing = record {
+      counted = λ w e k. tt;
+      begun = λ w limit margin voters c known unset made k. tt;
+      started = λ w setup x set new k. tt;
+      called = λ w v h e is k. tt;
+      rolled = λ w v j e s is some k. tt;
+      stopped = λ w v k. tt;
+      sorted = λ w lost waiting k. tt;
+      wanted = λ w client want core is k. tt;
+      heard = λ w client j a core is its has k. tt;
+    }
