@@ -146,7 +146,7 @@ pub call_tells : (limit : ℕ) (log : Path) (link : Link) (g : World) → KeptWo
     → Agrees limit log (moves g.field v x.replica (Some input) (called link x input)).history
     → TellsLog limit g.committed log (record { replica = v; before = x.replica; input = Some input; call = (called link x input).call }) (moves g.field v x.replica (Some input) (called link x input)).history
 call_tells limit log link g k v x input is known agrees =
-    let t = (called_kept link g.committed g.confs x (k.states v x is) input known).call in
+    let t = (called_kept link g.committed g.confs x (k.standing.states v x is) input known).call in
     let long : length (committed_path (called link x input).call.state) ≡ (called link x input).call.state.committed = front_long (called link x input).call.state t.within t.fits in
     record {
       front = agrees.0.0;
@@ -161,7 +161,7 @@ call_tells limit log link g k v x input is known agrees =
 pub call_reaches : (link : Link) (g : World) → KeptWorld g → (v : ℕ) (x : Enclave) (input : HostInput Message) → value_at g.field.running v ≡ Some x → KnownHostInput g.committed g.confs input
     → max g.committed (length (committed_path (called link x input).call.state)) ≡ max g.committed (committed_in (called link x input).call.batch)
 call_reaches link g k v x input is known =
-    let t = (called_kept link g.committed g.confs x (k.states v x is) input known).call in
+    let t = (called_kept link g.committed g.confs x (k.standing.states v x is) input known).call in
     omega (arith, front_long (called link x input).call.state t.within t.fits, t.below, t.above)
 
 -- the greatest index is within the log

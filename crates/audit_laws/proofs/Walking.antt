@@ -269,7 +269,7 @@ module _ (link : Link) (s : Setup) (log : Path) (v j : ℕ) (g : World) (set : g
 module _ (link : Link) (s : Setup) (log : Path) (g : World) (set : g.setup ≡ Some s) (runs : AllRun g.running g.field) (k : KeptWorld g) where
   mail_at : (j : ℕ) (m : Sent Message) → numbered g.messages j ≡ Some m → IsTable g.committed g.confs m.message.names.path
   mail_at zero m is = absurd (none-some m is)
-  mail_at (suc j) m is = all_get (λ (m : Sent Message). IsTable g.committed g.confs m.message.names.path) g.messages j m is k.mail
+  mail_at (suc j) m is = all_get (λ (m : Sent Message). IsTable g.committed g.confs m.message.names.path) g.messages j m is k.standing.mail
 
   abbrev IsPlain : Event → Type 0
   IsPlain (event.Begin margin limit voters) = ⊥

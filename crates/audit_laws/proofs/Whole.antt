@@ -152,7 +152,7 @@ traces_accepted are_runs one_log link bytes hashes short bound none =
     let one : IsOneLog w = subst IsOneLog (sym is) (one_log link (reverse w.past) (subst WithinBound is bound) (subst (NoCollision link) is none)) in
     let fair : FairWorld w = subst FairWorld (sym is) (run_fair link (reverse w.past)) in
     let closes : ClosingTells w = subst ClosingTells (sym is) (closing (run link (reverse w.past)) (run_keeps link (reverse w.past))) in
-    let lawful : Lawful (limit_of w) (log_of w) w = record { agrees = lawful_of (limit_of w) (log_of w) w.field.history one fair.kept.outcomes; limit_is = limit_told w.setup _ } in
+    let lawful : Lawful (limit_of w) (log_of w) w = record { agrees = lawful_of (limit_of w) (log_of w) w.field.history one fair.outcomes; limit_is = limit_told w.setup _ } in
     let begin : Play = playing empty_world in
     let sound : Sound link begin = record { run_is = refl; running = λ v h. absurd (let e : false ≡ true = h in cc); ranged = ranged_first } in
     let records = source_short bytes short in

@@ -17,13 +17,13 @@ use Rattle.values.specs.declared.peer.PeerMsg.TheVariants.{AskVote}
 use Rattle.client_msgs.specs.Canonical.{canonical_request}
 use Rattle.group_quorum.specs.Conf.{Conf}
 use Rattle.replica_model.specs.Path.{Path, Link, last_term}
-use Rattle.replica_model.specs.Keyed.{value_at, put, without, has}
+use Rattle.replica_model.specs.Keyed.{value_at, put, without}
 use Rattle.replica_model.specs.Message.{Message, plain}
 use Rattle.replica_model.specs.Replica.{Named, Sending, Role, Learner, Follower, Candidate, Leader, Leading, Replica}
 use Rattle.replica_model.specs.Peers.{others, progress_of, with_progress, leads_with, newest, peers}
 use Rattle.replica_model.specs.Call.{Call, empty_batch, still, Input, Peer, send_to}
 use Rattle.replica_model.specs.Raise.{numbered_from, pushed, raise_and_send}
-use Rattle.replica_model.specs.Votes.{leading_anew, led, win, stood, stands, with_vote}
+use Rattle.replica_model.specs.Votes.{leading_anew, led, win, stood, with_vote}
 use Rattle.replica_model.specs.Clients.{asked}
 use Rattle.replica_model.specs.Graft.{Offer, points_of, end_of, Difference, first_difference, kept_length, added, members_of, differs_at, refusal_hint, following, spliced, replaced, grafted, accepts}
 use Rattle.replica_model.specs.Heard.{accepted_upto}

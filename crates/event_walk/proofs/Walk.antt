@@ -1,6 +1,9 @@
 -- What every event keeps, every run keeps.
-use Rattle.std.proofs.Common.{◌≡◌, ℕ, zero, suc, not, Bool, true, false, Option, Some, None, Result, Ok, Err, List, [], ◌∷◌, slice_get, refl}
+use Rattle.std.proofs.Common.{◌≡◌, ℕ, zero, suc, not, max, Bool, true, false, Option, Some, None, Result, Ok, Err, List, [], ◌∷◌, ◌==◌, slice_get, refl, sym, ap, subst, ◌∙◌, arith}
 use Rattle.std.specs.Prelude.{unwrap_or, nat_le, fold}
+use Rattle.std.proofs.lemmas.Bool.{or_left, or_right, eq-eqb}
+use Rattle.std.proofs.lemmas.List.{append-nil}
+use Rattle.std.proofs.lemmas.Option.{none-some, same_Some}
 use Rattle.group_quorum.specs.Conf.{Conf}
 use Rattle.group_quorum.specs.Voters.{conf_of, insert_rising, is_in}
 use Rattle.group_quorum.specs.declared.ConfigFault.{ConfigFault}
@@ -15,13 +18,13 @@ use Rattle.replica_model.specs.Path.{Link}
 use Rattle.replica_model.specs.Keyed.{value_at}
 use Rattle.replica_model.specs.Replica.{Replica}
 use Rattle.replica_model.specs.Message.{Message}
-use Rattle.group_model.specs.Enclave.{Learn, Roll, Connect, Enclave, called, rolls_to}
+use Rattle.group_model.specs.Enclave.{Begin, Learn, Roll, Connect, Enclave, called, rolls_to}
 use Rattle.group_model.specs.Field.{Answers, Unreadable, Nothing}
 use Rattle.group_model.specs.Group.{Setup, Sent, Answered, numbered, but, is_client, core_of, saves_of}
 use Rattle.group_model.specs.Happens as happening
 use Rattle.group_model.specs.Happens.{Happening, Happened, Broken, Unanswered, happens}
 use Rattle.group_model.specs.Run.{Enclaves, World, moves, start_enclave, replies, call_enclave, enclaves, group_after, run, empty_world}
-use Rattle.event_walk.specs.Cases.{Handing, Ticked, Saved, Joins, Admits, Removes, Margins, Delivered, Asked, Said, handed, Survives}
+use Rattle.event_walk.specs.Cases.{Handing, Ticked, Saved, Joins, Admits, Removes, Margins, Delivered, Asked, Said, Linked, NoState, handed, after_call, HasBegun, Survives}
 
 -- a fact stands after what happened. The model's enclaves answer nothing that is no batch
 abbrev pub LeavesIt : (World → Type 0) → Happening Message Enclaves → Type 0
@@ -29,7 +32,25 @@ LeavesIt K (Happened came g) = K g
 LeavesIt K (Broken at f) = ⊥
 LeavesIt K Unanswered = Unit {0}
 
-module _ (link : Link) (K : World → Type 0) (s : Survives link K) where
+-- the voters of a group start one after another
+pub starts_all_keep : (link : Link) (K : Enclaves → Type 0) (c : Conf) (limit : ℕ) (vs : List ℕ) → ((v : ℕ) (f : Enclaves) → is_in vs v ≡ true → K f → K (start_enclave f (Begin v c.margin limit c.voters))) → (f : Enclaves) → K f → K (happening.starts_all (enclaves link) f c limit vs)
+starts_all_keep link K c limit [] keeps f k = k
+starts_all_keep link K c limit (v ∷ vs) keeps f k =
+    starts_all_keep link K c limit vs (λ u f among. keeps u f (or_right (v == u) (is_in vs u) among)) (start_enclave f (Begin v c.margin limit c.voters)) (keeps v f (or_left (v == v) (is_in vs v) (eq-eqb v v refl)) k)
+
+-- a link tells nothing, so that nothing but the field changes
+links_tell_nothing : (link : Link) (g : World) (x r : ℕ) (e : Enclave) → after_call g r e (Connect x) (called link e (Connect x)) ≡ record g { field = moves g.field r e.replica (Some (Connect x)) (called link e (Connect x)) }
+links_tell_nothing link g x r e =
+    let told : max g.committed 0 ≡ g.committed = omega arith in
+    λ i. record g {
+      messages = append-nil g.messages i;
+      waiting = append-nil g.waiting i;
+      answers = append-nil g.answers i;
+      committed = told i;
+      field = moves g.field r e.replica (Some (Connect x)) (called link e (Connect x));
+    }
+
+module _ (link : Link) (E K : World → Type 0) (knows : (w : World) → K w → E w) (s : Survives link E K) where
   abbrev Leaves : Happening Message Enclaves → Type 0
   Leaves h = LeavesIt K h
 
@@ -50,7 +71,9 @@ module _ (link : Link) (K : World → Type 0) (s : Survives link K) where
 
     -- a roll, by the state that it names
     put_back : (v j : ℕ) (e : Enclave) → value_at g.field.running v ≡ Some e → (o : Option Replica) → slice_get e.saved j ≡ o → Leaves (happening.rolled (enclaves link) v g (replies g.field v e.replica (Roll j) (rolls_to e j o)))
-    put_back v j e is None none = s.refused g v j e is none k
+    put_back v j e is None none =
+        let h : Handing g v = NoState j (λ e' is'. subst (λ (x : Enclave). slice_get x.saved j ≡ None) (same_Some e e' (sym is ∙ is')) none) in
+        subst (λ o. K (after_call g v e (Roll j) (rolls_to e j o))) none (s.called g v h e is k)
     put_back v j e is (Some state) some = s.rolled g v j e state is some k
 
     rolled_keeps : (v j : ℕ) (o : Option Enclave) → value_at g.field.running v ≡ o → Leaves (happening.rolled (enclaves link) v g (call_enclave link g.field v (Roll j) o))
@@ -94,7 +117,7 @@ module _ (link : Link) (K : World → Type 0) (s : Survives link K) where
 
   linked_next : (g : World) (x r : ℕ) (rs : List ℕ) → ((g : World) → K g → Leaves (linked_with g x rs)) → K g → (o : Option Enclave) → value_at g.field.running r ≡ o → Leaves (elim (call_enclave link g.field r (Connect x) o) [ Answers batch sent f ↦ happening.connected (enclaves link) x rs f (λ f. Happened happening.Passed (record g { field = f })) | Unreadable at f ↦ Broken at f | Nothing ↦ Unanswered ])
   linked_next g x r rs rest k None is = tt
-  linked_next g x r rs rest k (Some e) is = rest (record g { field = moves g.field r e.replica (Some (Connect x)) (called link e (Connect x)) }) (s.connected g x r e is k)
+  linked_next g x r rs rest k (Some e) is = rest (record g { field = moves g.field r e.replica (Some (Connect x)) (called link e (Connect x)) }) (subst K (links_tell_nothing link g x r e) (s.called g r (Linked x) e is k))
 
   connected_keeps : (x : ℕ) (rs : List ℕ) (g : World) → K g → Leaves (linked_with g x rs)
   connected_keeps x [] g k = k
@@ -135,7 +158,7 @@ module _ (link : Link) (K : World → Type 0) (s : Survives link K) where
   -- the begin event, and any other before it
   begins_keeps : (g : World) (limit margin : ℕ) (voters : List ℕ) (r : Result Conf ConfigFault) → g.setup ≡ None → conf_of margin voters ≡ r → K g → Leaves (happening.begins (enclaves link) limit r g)
   begins_keeps g limit margin voters (Err fault) unset made k = k
-  begins_keeps g limit margin voters (Ok c) unset made k = s.begun g limit margin voters c unset made k
+  begins_keeps g limit margin voters (Ok c) unset made k = s.begun g limit margin voters c (knows g k) unset made k
 
   first_keeps : (g : World) (e : Event) → g.setup ≡ None → K g → Leaves (happening.acts_first (enclaves link) e g)
   first_keeps g (event.Begin margin limit voters) unset k = begins_keeps g limit margin voters (conf_of margin voters) unset refl k
@@ -161,3 +184,56 @@ module _ (link : Link) (K : World → Type 0) (s : Survives link K) where
   -- a whole run
   pub run_keeps : K empty_world → (events : List Event) → K (run link events)
   run_keeps k events = events_keep events empty_world k
+
+-- what is known by itself may be known to another fact
+module _ (link : Link) (E K : World → Type 0) (known : Survives link (λ w. Unit {0}) E) (s : Survives link E K) where
+  both : Survives link E (λ w. E w × K w)
+  both = record {
+    counted = λ w e k. (known.counted w e k.0, s.counted w e k.1);
+    begun = λ w limit margin voters c it unset made k. (known.begun w limit margin voters c tt unset made k.0, s.begun w limit margin voters c it unset made k.1);
+    started = λ w setup x set new k. (known.started w setup x set new k.0, s.started w setup x set new k.1);
+    called = λ w v h e is k. (known.called w v h e is k.0, s.called w v h e is k.1);
+    rolled = λ w v j e t is some k. (known.rolled w v j e t is some k.0, s.rolled w v j e t is some k.1);
+    stopped = λ w v k. (known.stopped w v k.0, s.stopped w v k.1);
+    sorted = λ w lost waiting k. (known.sorted w lost waiting k.0, s.sorted w lost waiting k.1);
+    wanted = λ w client want core is k. (known.wanted w client want core is k.0, s.wanted w client want core is k.1);
+    heard = λ w client j a core is its has k. (known.heard w client j a core is its has k.0, s.heard w client j a core is its has k.1);
+  }
+
+-- where a replica runs, the group has begun
+runs_begun : (w : World) → HasBegun w → (v : ℕ) (e : Enclave) → value_at w.field.running v ≡ Some e → w.setup ≡ None → ⊥
+runs_begun w k v e is unset = none-some e (subst (λ (f : Enclaves). value_at f.running v ≡ Some e) (k unset).0 is)
+
+begins : (link : Link) → Survives link (λ w. Unit {0}) HasBegun
+begins link = record {
+  counted = λ w e k. k;
+  begun = λ w limit margin voters c it unset made k never. absurd (none-some (record { limit = limit; first = c }) (sym never));
+  started = λ w setup x set new k unset. absurd (none-some setup (subst (λ o. o ≡ Some setup) unset set));
+  called = λ w v h e is k unset. absurd (runs_begun w k v e is unset);
+  rolled = λ w v j e t is some k unset. absurd (runs_begun w k v e is unset);
+  stopped = λ w v k unset. let early = k unset in (ap (λ (f : Enclaves). (enclaves link).stop f v) early.0, early.1);
+  sorted = λ w lost waiting k. k;
+  wanted = λ w client want core is k. k;
+  heard = λ w client j a core is its has k. k;
+}
+
+-- a fact of a run of which it is known that before it has begun it has nothing
+pub begun_keeps : (link : Link) (K : World → Type 0) → Survives link HasBegun K → K empty_world → (events : List Event) → HasBegun (run link events) × K (run link events)
+begun_keeps link K s k events = run_keeps link HasBegun (λ w. HasBegun w × K w) (λ w k. k.0) (both link HasBegun K (begins link) s) ((λ unset. (refl, refl)), k) events
+
+-- the model's enclaves answer no frame that is no batch
+pub unbroken : (link : Link) (w : World) (e : Event) (at : _) (f : Enclaves) → happens (enclaves link) e w ≡ Broken at f → ⊥
+unbroken link w e at f is = subst (LeavesIt (λ w. Unit {0})) is (happens_leaves link (λ w. Unit {0}) (λ w. Unit {0}) (λ w k. tt) nothing w e tt)
+  where
+    nothing : Survives link (λ w. Unit {0}) (λ w. Unit {0})
+    nothing = record {
+      counted = λ w e k. tt;
+      begun = λ w limit margin voters c known unset made k. tt;
+      started = λ w setup x set new k. tt;
+      called = λ w v h e is k. tt;
+      rolled = λ w v j e s is some k. tt;
+      stopped = λ w v k. tt;
+      sorted = λ w lost waiting k. tt;
+      wanted = λ w client want core is k. tt;
+      heard = λ w client j a core is its has k. tt;
+    }

@@ -23,7 +23,7 @@ use Rattle.replica_model.specs.Replica.{Role, Candidate, Leader, Leading, Replic
 use Rattle.replica_model.specs.Peers.{others, voters_counted}
 use Rattle.replica_model.specs.Call.{Call, still, says, empty_batch}
 use Rattle.replica_model.specs.Raise.{pushed}
-use Rattle.replica_model.specs.Votes.{is_elected, leading_anew, led, win, stood, asks_votes, stands, stand, as_new, vote_asked, with_vote, vote_heard}
+use Rattle.replica_model.specs.Votes.{is_elected, leading_anew, led, win, stood, asks_votes, stand, as_new, vote_asked, with_vote, vote_heard}
 use Rattle.replica_model.specs.Clients.{asked, client_request}
 use Rattle.group_model.specs.Log.{IsFrontOf}
 use Rattle.path_machine.specs.Node as node

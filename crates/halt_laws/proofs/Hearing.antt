@@ -12,7 +12,7 @@ use Rattle.values.specs.declared.peer.PeerMsg.TheVariants.{Part}
 use Rattle.group_quorum.specs.Conf.{Conf}
 use Rattle.replica_model.specs.declared.Progress.{Progress}
 use Rattle.replica_model.specs.Path.{Path, Link}
-use Rattle.replica_model.specs.Keyed.{value_at, has, put, without}
+use Rattle.replica_model.specs.Keyed.{value_at, put, without}
 use Rattle.replica_model.specs.Message.{Message}
 use Rattle.replica_model.specs.Replica.{Named, Sending, Taking, Learner, Leader, Leading, Replica}
 use Rattle.replica_model.specs.Peers.{is_peer, peers, progress_of, with_progress, leads_with}

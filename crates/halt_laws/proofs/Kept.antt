@@ -1,6 +1,5 @@
 -- Each run without a rollback and without a collision stands beside the machine, and so has its laws.
 use Rattle.std.proofs.Common.{◌≡◌, ℕ, suc, Bool, true, false, inl, inr, Option, Some, None, Ok, List, [], ◌∷◌, ◌++◌, map, refl, sym, ap, subst, arith}
-use Rattle.std.proofs.lemmas.List.{append-nil}
 use Rattle.std.specs.List.{AllByRecursion}
 use Rattle.std.proofs.lemmas.Option.{none-some, same_Some}
 use Rattle.values.specs.declared.event.Event.{Event}
@@ -11,7 +10,7 @@ use Rattle.replica_model.specs.Keyed.{value_at}
 use Rattle.replica_model.specs.Replica.{Replica, learner}
 use Rattle.replica_model.specs.Message.{Message}
 use Rattle.replica_model.specs.Call.{Call, still}
-use Rattle.group_model.specs.Enclave.{Learn, HostInput, Peer, Roll, Connect, Enclave, called, rolls_to}
+use Rattle.group_model.specs.Enclave.{Learn, HostInput, Peer, Enclave, called}
 use Rattle.group_model.specs.Group.{Setup, sent_by}
 use Rattle.group_model.specs.Happens as happening
 use Rattle.group_model.specs.Run.{Recorded, Enclaves, World, moves, no_enclaves, start_enclave, enclaves, run}
@@ -20,32 +19,26 @@ use Rattle.group_model.specs.Halts.{LedIn, HoldsEnough, PromiseLies, HaltLaws, N
 use Rattle.log_laws.proofs.Chain.{NoCollisionIn}
 use Rattle.log_laws.proofs.History.{with_call, HeldIn, all_more, none_larger}
 use Rattle.log_laws.proofs.Moving.{all_numbered}
-use Rattle.event_walk.specs.Cases.{Handing, Delivered, handed, Survives}
+use Rattle.event_walk.specs.Cases.{Handing, Delivered, NoState, handed, HasBegun, Survives}
 use Rattle.event_walk.proofs.Walk as walk
 use Rattle.path_machine.specs.Machine.{Machine, In}
 use Rattle.path_machine.specs.Laws as machine
 use Rattle.path_machine.specs.Changes.{is_rising, is_single_change}
 use Rattle.path_machine.proofs.Rising.{made_rises}
 use Rattle.halt_laws.proofs.Moving.{EnoughIn, MailFits, Recounted, Simulated, stopped_simulated}
-use Rattle.halt_laws.proofs.Onward.{still_went}
 use Rattle.halt_laws.proofs.Stepping.{HostInputFits}
-use Rattle.halt_laws.proofs.Events.{called_simulated, idle_simulated, learner_simulated}
+use Rattle.halt_laws.proofs.Events.{called_simulated, learner_simulated}
 use Rattle.halt_laws.proofs.Begun.{begun, made_ids}
 
--- what the world keeps: before the group has begun it has nothing
+-- what the world keeps, where nothing collided and nobody was rolled back
 record KeptWorld (link : Link) (w : World) : Type 0 where
   rising : (setup : Setup) → w.setup ≡ Some setup → is_rising setup.first.voters ≡ true
-  early : w.setup ≡ None → (w.field ≡ no_enclaves) × (w.messages ≡ [])
   kept : NoCollisionIn link (HeldIn w.field.history) → w.rolled ≡ [] → (setup : Setup) → w.setup ≡ Some setup → Simulated link setup.first (is_in setup.first.voters) w.started w.messages w.field
 
 module _ (link : Link) (w : World) (k : KeptWorld link w) where
-  -- where a replica runs, the group has begun
-  has_begun : (v : ℕ) (e : Enclave) → value_at w.field.running v ≡ Some e → w.setup ≡ None → ⊥
-  has_begun v e is unset = none-some e (subst (λ (f : Enclaves). value_at f.running v ≡ Some e) (k.early unset).0 is)
-
-  begins : (limit margin : ℕ) (voters : List ℕ) (c : Conf) → conf_of margin voters ≡ Ok c → w.setup ≡ None → Simulated link c (is_in c.voters) c.voters w.messages (happening.starts_all (enclaves link) w.field c limit c.voters)
-  begins limit margin voters c made unset =
-      let early = k.early unset in
+  begins : (limit margin : ℕ) (voters : List ℕ) (c : Conf) → conf_of margin voters ≡ Ok c → HasBegun w → w.setup ≡ None → Simulated link c (is_in c.voters) c.voters w.messages (happening.starts_all (enclaves link) w.field c limit c.voters)
+  begins limit margin voters c made known unset =
+      let early = known unset in
       subst (λ (f : Enclaves). Simulated link c (is_in c.voters) c.voters w.messages (happening.starts_all (enclaves link) f c limit c.voters)) (sym early.0)
       (subst (λ m. Simulated link c (is_in c.voters) c.voters m (happening.starts_all (enclaves link) no_enclaves c limit c.voters)) (sym early.1)
       (begun link c limit (made_rises margin voters c made) (made_ids margin voters c made)))
@@ -55,11 +48,12 @@ module _ (link : Link) (w : World) (k : KeptWorld link w) where
   before_call v before input call none = k.kept (none_larger link (HeldIn w.field.history) (HeldIn (with_call w.field.history v before input call)) (λ p h. inr h) none)
 
   -- what is handed stands beside what was sent
-  fits_handed : (first : Conf) (holds : ℕ → Bool) (old : Simulated link first holds w.started w.messages w.field) (v : ℕ) (h : Handing w v) → HostInputFits link first (HeldIn w.field.history) old.machine.history.messages v (handed h)
-  fits_handed first holds old v (Delivered j m is to) =
-      subst (λ u. HostInputFits link first (HeldIn w.field.history) old.machine.history.messages u (Peer m.from m.to m.message)) (sym to)
+  fits_handed : (first : Conf) (holds : ℕ → Bool) (old : Simulated link first holds w.started w.messages w.field) (v : ℕ) (h : Handing w v) (e : Enclave) → value_at w.field.running v ≡ Some e → HostInputFits link first (HeldIn w.field.history) old.machine.history.messages v e (handed h)
+  fits_handed first holds old v (Delivered j m is to) e runs =
+      subst (λ u. HostInputFits link first (HeldIn w.field.history) old.machine.history.messages u e (Peer m.from m.to m.message)) (sym to)
       (all_numbered (MailFits link first w.field.history old.machine.history.messages) w.messages j m is old.mail)
-  fits_handed first holds old v other = tt
+  fits_handed first holds old v (NoState j none) e runs = none e runs
+  fits_handed first holds old v other e runs = tt
 
   module _ (setup : Setup) (set : w.setup ≡ Some setup) (unrolled : w.rolled ≡ []) where
     abbrev first : Conf
@@ -72,59 +66,31 @@ module _ (link : Link) (w : World) (k : KeptWorld link w) where
     starts x new none =
         learner_simulated link first holds w.started w.messages w.field (before_call (suc x) (learner (suc x)) None (still (learner (suc x))) none unrolled setup set) (suc x) w.running new (omega arith)
 
-    connects : (x r : ℕ) (e : Enclave) → value_at w.field.running r ≡ Some e → NoCollisionIn link (HeldIn (with_call w.field.history r e.replica (Some (Connect x)) (called link e (Connect x)).call)) → Simulated link first holds w.started w.messages (moves w.field r e.replica (Some (Connect x)) (called link e (Connect x)))
-    connects x r e is none =
-        let old = before_call r e.replica (Some (Connect x)) (called link e (Connect x)).call none unrolled setup set in
-        subst (λ m. Simulated link first holds w.started m (moves w.field r e.replica (Some (Connect x)) (called link e (Connect x)))) (append-nil w.messages)
-        (idle_simulated link first holds w.started w.messages w.field old r e (Some (Connect x)) (called link e (Connect x)) is refl
-        (still_went link first holds (HeldIn (with_call w.field.history r e.replica (Some (Connect x)) (called link e (Connect x)).call)) old.machine r e.replica (old.states r e is).0))
-
     calls : (v : ℕ) (h : Handing w v) (e : Enclave) → value_at w.field.running v ≡ Some e → NoCollisionIn link (HeldIn (with_call w.field.history v e.replica (Some (handed h)) (called link e (handed h)).call)) → Simulated link first holds w.started (w.messages ++ map (sent_by v) (called link e (handed h)).call.sent) (moves w.field v e.replica (Some (handed h)) (called link e (handed h)))
     calls v h e is none =
         let old = before_call v e.replica (Some (handed h)) (called link e (handed h)).call none unrolled setup set in
-        called_simulated link first holds w.started w.messages w.field old (k.rising setup set) v e (handed h) is (fits_handed first holds old v h) none
+        called_simulated link first holds w.started w.messages w.field old (k.rising setup set) v e (handed h) is (fits_handed first holds old v h e is) none
 
-    refuses : (v j : ℕ) (e : Enclave) → value_at w.field.running v ≡ Some e → NoCollisionIn link (HeldIn (with_call w.field.history v e.replica (Some (Roll j)) (rolls_to e j None).call)) → Simulated link first holds w.started (w.messages ++ []) (moves w.field v e.replica (Some (Roll j)) (rolls_to e j None))
-    refuses v j e is none =
-        let old = before_call v e.replica (Some (Roll j)) (rolls_to e j None).call none unrolled setup set in
-        idle_simulated link first holds w.started w.messages w.field old v e (Some (Roll j)) (rolls_to e j None) is refl
-        (still_went link first holds (HeldIn (with_call w.field.history v e.replica (Some (Roll j)) (rolls_to e j None).call)) old.machine v e.replica (old.states v e is).0)
-
-survives : (link : Link) → Survives link (KeptWorld link)
+survives : (link : Link) → Survives link HasBegun (KeptWorld link)
 survives link = record {
-  counted = λ w e k. record { rising = k.rising; early = k.early; kept = k.kept };
-  begun = λ w limit margin voters c unset made k. record {
+  counted = λ w e k. record { rising = k.rising; kept = k.kept };
+  begun = λ w limit margin voters c early unset made k. record {
     rising = λ setup is. subst (λ (s : Setup). is_rising s.first.voters ≡ true) (same_Some (record { limit = limit; first = c }) setup is) (made_rises margin voters c made);
-    early = λ never. absurd (none-some (record { limit = limit; first = c }) (sym never));
-    kept = λ none unrolled setup is. subst (λ (s : Setup). Simulated link s.first (is_in s.first.voters) c.voters w.messages (happening.starts_all (enclaves link) w.field c limit c.voters)) (same_Some (record { limit = limit; first = c }) setup is) (begins link w k limit margin voters c made unset);
+    kept = λ none unrolled setup is. subst (λ (s : Setup). Simulated link s.first (is_in s.first.voters) c.voters w.messages (happening.starts_all (enclaves link) w.field c limit c.voters)) (same_Some (record { limit = limit; first = c }) setup is) (begins link w k limit margin voters c made early unset);
   };
-  started = λ w setup x set new k. record {
-    rising = k.rising;
-    early = λ unset. absurd (none-some setup (subst (λ o. o ≡ Some setup) unset set));
-    kept = λ none unrolled s is. starts link w k s is unrolled x new none;
-  };
-  connected = λ w x r e is k. record { rising = k.rising; early = λ unset. absurd (has_begun link w k r e is unset); kept = λ none unrolled s set. connects link w k s set unrolled x r e is none };
-  called = λ w v h e is k. record { rising = k.rising; early = λ unset. absurd (has_begun link w k v e is unset); kept = λ none unrolled s set. calls link w k s set unrolled v h e is none };
-  refused = λ w v j e is free k. record { rising = k.rising; early = λ unset. absurd (has_begun link w k v e is unset); kept = λ none unrolled s set. refuses link w k s set unrolled v j e is none };
+  started = λ w setup x set new k. record { rising = k.rising; kept = λ none unrolled s is. starts link w k s is unrolled x new none };
+  called = λ w v h e is k. record { rising = k.rising; kept = λ none unrolled s set. calls link w k s set unrolled v h e is none };
   -- a roll that is accepted makes its replica a rolled-back one
-  rolled = λ w v j e s is some k. record { rising = k.rising; early = λ unset. absurd (has_begun link w k v e is unset); kept = λ none rolls. absurd (let apart : v ∷ w.rolled ≡ [] = rolls in cc) };
-  stopped = λ w v k. record {
-    rising = k.rising;
-    early = λ unset. let early = k.early unset in (ap (λ (f : Enclaves). (enclaves link).stop f v) early.0, early.1);
-    kept = λ none unrolled s set. stopped_simulated link s.first (is_in s.first.voters) w.started w.messages w.field (k.kept none unrolled s set) v;
-  };
-  sorted = λ w lost waiting k. record { rising = k.rising; early = k.early; kept = k.kept };
-  wanted = λ w client want core is k. record { rising = k.rising; early = k.early; kept = k.kept };
-  heard = λ w client j a core is its has k. record { rising = k.rising; early = k.early; kept = k.kept };
+  rolled = λ w v j e s is some k. record { rising = k.rising; kept = λ none rolls. absurd (let apart : v ∷ w.rolled ≡ [] = rolls in cc) };
+  stopped = λ w v k. record { rising = k.rising; kept = λ none unrolled s set. stopped_simulated link s.first (is_in s.first.voters) w.started w.messages w.field (k.kept none unrolled s set) v };
+  sorted = λ w lost waiting k. record { rising = k.rising; kept = k.kept };
+  wanted = λ w client want core is k. record { rising = k.rising; kept = k.kept };
+  heard = λ w client j a core is its has k. record { rising = k.rising; kept = k.kept };
 }
 
-run_kept : (link : Link) (events : List Event) → KeptWorld link (run link events)
-run_kept link events = walk.run_keeps link (KeptWorld link) (survives link)
-    (record {
-      rising = λ setup is. absurd (none-some setup is);
-      early = λ unset. (refl, refl);
-      kept = λ none unrolled setup is. absurd (none-some setup is);
-    }) events
+run_kept : (link : Link) (events : List Event) → HasBegun (run link events) × KeptWorld link (run link events)
+run_kept link events = walk.begun_keeps link (KeptWorld link) (survives link)
+    (record { rising = λ setup is. absurd (none-some setup is); kept = λ none unrolled setup is. absurd (none-some setup is) }) events
 
 module _ (m : Machine) (Enough : ℕ → Path → Type 0) where
   -- who led is recorded
@@ -173,12 +139,12 @@ nothing_laws w empty = record {
   no_halt_told = subst (AllByRecursion (λ (r : Recorded). r.call.batch.halt ≡ None)) (sym empty) tt;
 }
 
-kept_laws : machine.LawsOfRuns is_single_change → (link : Link) (w : World) → KeptWorld link w → w.rolled ≡ [] → NoCollision link w → HaltLaws w
-kept_laws hold link w k unrolled none = by_setup w.setup refl
+kept_laws : machine.LawsOfRuns is_single_change → (link : Link) (w : World) → HasBegun w → KeptWorld link w → w.rolled ≡ [] → NoCollision link w → HaltLaws w
+kept_laws hold link w early k unrolled none = by_setup w.setup refl
   where
     by_setup : (o : Option Setup) → w.setup ≡ o → HaltLaws w
-    by_setup None unset = nothing_laws w (ap (λ (f : Enclaves). f.history) (k.early unset).0)
+    by_setup None unset = nothing_laws w (ap (λ (f : Enclaves). f.history) (early unset).0)
     by_setup (Some setup) set = simulated_laws hold link w setup (k.kept none unrolled setup set)
 
 pub no_halt_of : machine.LawsOfRuns is_single_change → NoHalt
-no_halt_of hold link events unrolled none = kept_laws hold link (run link events) (run_kept link events) unrolled none
+no_halt_of hold link events unrolled none = kept_laws hold link (run link events) (run_kept link events).0 (run_kept link events).1 unrolled none

@@ -1,9 +1,8 @@
 -- A run beside the generous machine, and that it stays so where one replica goes on.
-use Rattle.std.proofs.Common.{◌≡◌, ℕ, ◌<◌, Bool, true, false, inl, inr, Option, Some, None, List, [], ◌∷◌, ◌++◌, refl, sym, ◌∙◌, subst}
+use Rattle.std.proofs.Common.{◌≡◌, ℕ, ◌<◌, Bool, true, false, inl, inr, Option, Some, None, List, ◌++◌, refl, sym, ◌∙◌, subst}
 use Rattle.std.specs.Prelude.{map}
 use Rattle.std.specs.List.{AllByRecursion}
 use Rattle.std.proofs.lemmas.Bool.{both_ways}
-use Rattle.std.proofs.lemmas.Option.{same_Some}
 use Rattle.group_quorum.specs.Conf.{Conf}
 use Rattle.group_quorum.specs.Voters.{is_in}
 use Rattle.replica_model.specs.Path.{Path, Link}
@@ -18,14 +17,15 @@ use Rattle.group_model.specs.Halts.{EnoughAt, Leads}
 use Rattle.log_laws.proofs.Good.{front_refl}
 use Rattle.log_laws.proofs.Ending.{all-append}
 use Rattle.log_laws.proofs.History.{with_call, HeldIn, all_more}
-use Rattle.log_laws.proofs.Lookups.{put_cases, without_stood}
+use Rattle.log_laws.proofs.Lookups.{without_stood}
+use Rattle.log_laws.proofs.Standing.{goes_on, mailed}
 use Rattle.path_machine.specs.Node as node
 use Rattle.path_machine.specs.Node.{Node}
 use Rattle.path_machine.specs.Machine.{Choice, Machine, In}
 use Rattle.path_machine.specs.Changes.{is_single_change}
 use Rattle.path_machine.proofs.Changes.{single_change_overlaps}
 use Rattle.path_laws.proofs.Goes.{Later, reached_laws}
-use Rattle.halt_laws.proofs.Alike.{kind, node_as, MsgFits, msg_more, SentFits, Reach, Is, Went}
+use Rattle.halt_laws.proofs.Alike.{kind, node_as, MsgFits, msg_more, Reach, Is, Went}
 
 -- in some call of a history there was a moment with enough marks
 abbrev pub EnoughIn : List Recorded → ℕ → Path → Type 0
@@ -75,10 +75,6 @@ module _ (link : Link) (first : Conf) (holds : ℕ → Bool) (started : List ℕ
     abbrev history' : List Recorded
     history' = with_call f.history v before input c.call
 
-    mailed : (sent : List (ℕ × Message)) → SentFits link first (HeldIn history') went.now.history.messages v sent → AllByRecursion (MailFits link first history' went.now.history.messages) (map (sent_by v) sent)
-    mailed [] x = tt
-    mailed (m ∷ sent) x = ((went.at.some, x.0), mailed sent x.1)
-
     apart_from : (u : ℕ) → is_in started' u ≡ false → u ≡ v → ⊥
     apart_from u out is = both_ways (is_in started' v) (subst (λ x. is_in started' x ≡ false) is out) used
 
@@ -105,16 +101,13 @@ module _ (link : Link) (first : Conf) (holds : ℕ → Bool) (started : List ℕ
       machine = went.now;
       reached = went.at.reached;
       states = states;
-      used = λ u e is. elim (put_cases f.running v c.enclave u) [
-        | inl here ↦ subst (λ x. is_in started' x ≡ true) here.0 used
-        | inr there ↦ in_more u (k.used u e (sym there.1 ∙ is))
-      ];
+      used = goes_on (λ u e. is_in started u ≡ true) (λ u e. is_in started' u ≡ true) f.running v c.enclave used (λ u e apart. in_more u) k.used;
       fresh = λ u out. went.others u (apart_from u out) ∙ k.fresh u (fewer u out);
       mail = all-append (MailFits link first history' went.now.history.messages) messages (map (sent_by v) c.call.sent)
           (all_more (MailFits link first f.history k.machine.history.messages) (MailFits link first history' went.now.history.messages)
           (λ m x. (x.0, msg_more link first (HeldIn f.history) (HeldIn history') (λ p h. inr h) k.machine.history.messages went.now.history.messages went.later.messages m.from m.to m.message.names m.message.msg x.1))
           messages k.mail)
-          (mailed c.call.sent (went.told (inl (front_refl c.call.state.path))));
+          (mailed (MailFits link first history' went.now.history.messages) v c.call.sent (all_more (λ (m : ℕ × Message). MsgFits link first (HeldIn history') went.now.history.messages v m.0 m.1.names m.1.msg) (λ m. MailFits link first history' went.now.history.messages (sent_by v m)) (λ m x. (went.at.some, x)) c.call.sent (went.told (inl (front_refl c.call.state.path)))));
       noted = λ x at. elim (went.noted x at) [ inl old ↦ inr (k.noted x old) | inr new ↦ inl new ];
       enough = λ x h. elim h [ inl new ↦ went.enough x new | inr old ↦ went.later.chosen x (k.enough x old) ];
       recounted = (told, all_more (Recounted k.machine (EnoughIn f.history)) (Recounted went.now (EnoughIn history')) (recounted_more k.machine went.now went.later (EnoughIn f.history) (EnoughIn history') (λ t p h. inr h)) f.history k.recounted);
@@ -124,30 +117,26 @@ module _ (link : Link) (first : Conf) (holds : ℕ → Bool) (started : List ℕ
         in_more u stood = elim (Rattle.std.proofs.lemmas.Bool.cases_Bool (is_in started' u)) [ inl stands ↦ stands | inr out ↦ absurd (both_ways (is_in started u) (fewer u out) stood) ]
 
         states : (u : ℕ) (e : Enclave) → value_at (put f.running v c.enclave) u ≡ Some e → Is first holds went.now u e.replica × HeldIn history' e.replica.path
-        states u e is = elim (put_cases f.running v c.enclave u) [
-          | inl here ↦
-              subst (λ (x : Enclave). Is first holds went.now u x.replica × HeldIn history' x.replica.path) (same_Some c.enclave e (sym here.1 ∙ is))
-              (subst (λ y. Is first holds went.now y c.enclave.replica × HeldIn history' c.enclave.replica.path) here.0
-              (subst (λ (s : Replica). Is first holds went.now v s × HeldIn history' s.path) same (went.at, inl (front_refl c.call.state.path))))
-          | inr there ↦
-              let old = k.states u e (sym there.1 ∙ is) in
-              let a = old.0 in (
-                record {
-                  reached = went.at.reached;
-                  voted = a.voted;
-                  votes = a.votes;
-                  marks = a.marks;
-                  here = went.others u (λ same'. there.0 (sym same')) ∙ a.here;
-                  mine = a.mine;
-                  some = a.some;
-                  based = a.based;
-                  vote_is = a.vote_is;
-                  acts = a.acts;
-                  awake = a.awake;
-                },
-                inr old.1,
-              )
-        ]
+        states = goes_on (λ u e. Is first holds k.machine u e.replica × HeldIn f.history e.replica.path) (λ u e. Is first holds went.now u e.replica × HeldIn history' e.replica.path) f.running v c.enclave
+            (subst (λ (s : Replica). Is first holds went.now v s × HeldIn history' s.path) same (went.at, inl (front_refl c.call.state.path)))
+            (λ u e apart old.
+            let a = old.0 in (
+              record {
+                reached = went.at.reached;
+                voted = a.voted;
+                votes = a.votes;
+                marks = a.marks;
+                here = went.others u (λ same'. apart (sym same')) ∙ a.here;
+                mine = a.mine;
+                some = a.some;
+                based = a.based;
+                vote_is = a.vote_is;
+                acts = a.acts;
+                awake = a.awake;
+              },
+              inr old.1,
+            ))
+            k.states
 
     -- no other node moves
     pub moves_others : (u : ℕ) → (u ≡ v → ⊥) → moves_simulated.machine.nodes u ≡ k.machine.nodes u

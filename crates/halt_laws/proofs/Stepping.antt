@@ -6,20 +6,21 @@ use Rattle.step_walk.proofs.Outcomes as may
 use Rattle.step_walk.proofs.Walk.{holds_behind, step_keeps}
 use Rattle.halt_laws.proofs.Hearing.{accepted_at, rejected_at, taken_at, tick_at, learner_went}
 use Rattle.halt_laws.proofs.Changing.{join_went, admit_went, remove_went, margin_went}
-use Rattle.std.proofs.Common.{◌≡◌, ℕ, ◌<◌, ◌-◌, ◌==◌, ◌||◌, not, Bool, true, false, List, length, refl, subst}
+use Rattle.std.proofs.Common.{◌≡◌, ℕ, ◌<◌, ◌||◌, Bool, true, false, None, List, slice_get, refl, sym, ◌∙◌, subst}
 use Rattle.std.proofs.lemmas.Bool.{lt-ltb}
+use Rattle.std.proofs.lemmas.Option.{none-some}
 use Rattle.values.specs.declared.peer.PeerMsg.{PeerMsg}
 use Rattle.values.specs.declared.peer.PeerMsg.TheVariants.{AskVote, Vote, Append, Accepted, Rejected, PartTaken}
 use Rattle.group_quorum.specs.Conf.{Conf}
-use Rattle.group_quorum.specs.Voters.{is_in}
-use Rattle.schedule_model.specs.Reading.{max_u32}
 use Rattle.replica_model.specs.Path.{Path, Link}
 use Rattle.replica_model.specs.Message.{Message, plain}
 use Rattle.replica_model.specs.Call as step
 use Rattle.replica_model.specs.Call.{Input, Call, still}
 use Rattle.values.specs.Terms.{term_of}
-use Rattle.group_model.specs.Enclave.{HostInput, Tick, Peer, Client, Join, Admit, Remove, Save, Roll, Connect, Margin, Enclave, Called, called, accepts, saves_if}
+use Rattle.group_model.specs.Enclave.{HostInput, Enclave, called}
 use Rattle.group_model.specs.Log.{IsFrontOf}
+use Rattle.event_walk.specs.Enclosed.{Handed, Enclosed}
+use Rattle.event_walk.proofs.Enclosed.{call_keeps}
 use Rattle.log_laws.proofs.Chain.{NoCollisionIn}
 use Rattle.path_machine.specs.Node as node
 use Rattle.path_machine.specs.Machine.{Machine}
@@ -36,10 +37,8 @@ InputFits link first Held messages v (step.Peer from m) = (0 < from) × MsgFits 
 InputFits link first Held messages v input = Unit {0}
 
 -- the same of what a host hands, where nothing is put back
-abbrev pub HostInputFits : Link → Conf → (Path → Type 0) → List node.Message → ℕ → HostInput Message → Type 0
-HostInputFits link first Held messages v (Peer from to m) = (0 < from) × MsgFits link first Held messages from v m.names m.msg
-HostInputFits link first Held messages v (Roll state) = ⊥
-HostInputFits link first Held messages v other = Unit {0}
+abbrev pub HostInputFits : Link → Conf → (Path → Type 0) → List node.Message → ℕ → Enclave → HostInput Message → Type 0
+HostInputFits link first Held messages v e = Handed e (λ input. InputFits link first Held messages v) (λ k. slice_get e.saved k ≡ None)
 
 module _ (link : Link) (first : Conf) (rises : is_rising first.voters ≡ true) (holds : ℕ → Bool) (Held : Path → Type 0) (closed : (p w : Path) → IsFrontOf p w → Held w → Held p) (none : NoCollisionIn link Held) (w : Machine) (v : ℕ) where
   abbrev Fit : ℕ → Named → PeerMsg → Type 0
@@ -103,32 +102,11 @@ module _ (link : Link) (first : Conf) (rises : is_rising first.voters ≡ true) 
   step_went s a mine input x =
       step_keeps link Come (λ s. InputFits link first Held w.history.messages v) Fit (λ s. Goes) (λ s input. Goes) rules s (record { going = still_went link first holds Held w v s a; mine = mine }) input x
 
-  -- a call of an enclave: it is some moves, and leaves the enclave with the state of the call
-  abbrev pub Calls : Called → Type 0
-  Calls c = (c.call.state ≡ c.enclave.replica) × Went first holds link Held w v c.call
-
-  module _ (e : Enclave) (a : Is first holds w v e.replica) (mine : Held e.replica.path) where
-    -- one that only refuses, saves or links
-    abbrev idle : Going link first holds Held w v (still e.replica)
-    idle = still_went link first holds Held w v e.replica a
-
-    accepts_went : (own linked : Bool) (from to : ℕ) (m : Message) → (0 < from) × MsgFits link first Held w.history.messages from v m.names m.msg → Calls (accepts own linked link e from to m)
-    accepts_went false linked from to m x = (refl, idle)
-    accepts_went true false from to m x = (refl, idle)
-    accepts_went true true from to m x = (refl, step_went e.replica a mine (step.Peer from m) x)
-
-    saves_went : (b : Bool) → Calls (saves_if b e)
-    saves_went true = (refl, idle)
-    saves_went false = (refl, idle)
-
-    pub called_went : (input : HostInput Message) → HostInputFits link first Held w.history.messages v input → Calls (called link e input)
-    called_went Tick x = (refl, step_went e.replica a mine step.Tick tt)
-    called_went (Peer from to m) x = accepts_went (to == e.replica.me) (is_in e.links from) from to m x
-    called_went (Client client number request) x = (refl, step_went e.replica a mine (step.Client client number request) tt)
-    called_went (Join id) x = (refl, step_went e.replica a mine (step.Join id (is_in e.links id)) tt)
-    called_went (Admit id) x = (refl, step_went e.replica a mine (step.Admit id) tt)
-    called_went (Remove id) x = (refl, step_went e.replica a mine (step.Remove id) tt)
-    called_went Save x = saves_went (not (length e.saved - 1 == max_u32))
-    called_went (Roll k) x = absurd x
-    called_went (Connect id) x = (refl, idle)
-    called_went (Margin margin) x = (refl, step_went e.replica a mine (step.Margin margin) tt)
+  -- a call of an enclave is some moves
+  pub called_went : (e : Enclave) → Is first holds w v e.replica → Held e.replica.path → (input : HostInput Message) → HostInputFits link first Held w.history.messages v e input → Enclosed (Went first holds link Held w v) e (called link e input)
+  called_went e a mine = call_keeps link e (λ input. InputFits link first Held w.history.messages v) (λ k. slice_get e.saved k ≡ None) (λ input. Went first holds link Held w v)
+      (record {
+        stays = λ why x. still_went link first holds Held w v e.replica a;
+        steps = λ input told x. step_went e.replica a mine told x;
+        rolls = λ k s some none. absurd (none-some s (sym none ∙ some));
+      })

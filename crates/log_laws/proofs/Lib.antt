@@ -12,6 +12,7 @@ mod Hearing
 mod Stepping
 pub mod History
 mod Enclosed
+pub mod Standing
 pub mod Moving
 pub mod Kept
 mod Samples

@@ -4,7 +4,7 @@ use Rattle.std.proofs.Common.{◌≡◌, ℕ, false, Option, Some, None, take, s
 use Rattle.values.specs.declared.peer.PeerMsg.{PeerMsg}
 use Rattle.values.specs.declared.peer.PeerMsg.TheVariants.{AskVote}
 use Rattle.group_quorum.specs.Conf.{Conf}
-use Rattle.replica_model.specs.Path.{Path, Link, last_term, point}
+use Rattle.replica_model.specs.Path.{Path, Link, last_term}
 use Rattle.replica_model.specs.Message.{plain}
 use Rattle.replica_model.specs.Replica.{Role, Learner, Follower, Candidate, Leader, Replica, Taking, Leading}
 use Rattle.replica_model.specs.Term.{followed, learner_term}
@@ -17,14 +17,13 @@ use Rattle.log_laws.proofs.Electing.{in_role, win_good, leads, request_good, joi
 use Rattle.log_laws.proofs.Grafting.{graft_good}
 use Rattle.log_laws.proofs.Hearing.{accepted_at, next_put, over, whole_sent, next_sent, tick_at, whole_good}
 use Rattle.log_laws.proofs.Ending.{ended_good}
-use Rattle.replica_model.specs.Keyed.{has, without}
+use Rattle.replica_model.specs.Keyed.{without}
 use Rattle.replica_model.specs.Peers.{leads_with, is_pending, newest, others}
 use Rattle.replica_model.specs.Graft.{following}
 use Rattle.replica_model.specs.Tables.{taken_with}
 use Rattle.values.specs.declared.batch.Refusal.{Refusal}
 use Rattle.client_msgs.specs.Reading.{request_of}
-use Rattle.replica_model.specs.Votes.{win, stood, stands, with_vote}
-use Rattle.replica_model.specs.Clients.{asked}
+use Rattle.replica_model.specs.Votes.{win, stood, with_vote}
 use Rattle.replica_model.specs.Changes.{log_full, change_pending, join_refusal, admit_refusal, remove_refusal, margin_refusal, push_members, with_voter, without_voter}
 use Rattle.step_walk.specs.Rules.{IsHolder, Rules}
 use Rattle.step_walk.proofs.Outcomes as may

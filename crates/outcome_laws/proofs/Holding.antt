@@ -91,7 +91,7 @@ module _ (laws : TableLaws) (w : World) where
 
   pub laws_hold : IsOneLog w → FairWorld w → OneLogLaws w
   laws_hold one k =
-      let outcomes = outcomes_hold w.field.history one k.kept.outcomes in
+      let outcomes = outcomes_hold w.field.history one k.outcomes in
       record {
         one_log = one;
         outcomes = outcomes;

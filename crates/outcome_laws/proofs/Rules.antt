@@ -17,9 +17,9 @@ use Rattle.replica_model.specs.Replica.{Ticket, Named, Taking, Role, Leader, Lea
 use Rattle.replica_model.specs.Peers.{leads_with}
 use Rattle.replica_model.specs.Call.{Call, empty_batch, still, answers}
 use Rattle.replica_model.specs.Raise.{pushed, raise_and_send}
-use Rattle.replica_model.specs.Votes.{leading_anew, led, win, stand}
+use Rattle.replica_model.specs.Votes.{leading_anew, led, win}
 use Rattle.replica_model.specs.Clients.{asked}
-use Rattle.replica_model.specs.Graft.{Offer, end_of, Difference, kept_length, added, undecided, undecided_at, following, answered, spliced, replaced, grafted, accepts}
+use Rattle.replica_model.specs.Graft.{Offer, end_of, Difference, kept_length, added, undecided, undecided_at, following, spliced, replaced, grafted, accepts}
 use Rattle.replica_model.specs.Tables.{is_taken, taken_with, point_taken}
 use Rattle.replica_model.specs.Changes.{push_members}
 use Rattle.outcome_laws.proofs.Places.{entry_of_front, entry_in_front, entry_fits}

@@ -1,5 +1,5 @@
 -- One call of a replica keeps its tickets and its limit, and tells outcomes of its path.
-use Rattle.std.proofs.Common.{◌≡◌, ℕ, Ok, List, [], ◌++◌, refl, sym, subst, ◌+◌, ◌-◌, true, max, Result, ◌∷◌, length}
+use Rattle.std.proofs.Common.{◌≡◌, ℕ, Ok, List, [], ◌++◌, refl, sym, subst, ◌+◌, true, max, Result, ◌∷◌, length}
 use Rattle.std.proofs.lemmas.List.{append-nil}
 use Rattle.values.specs.declared.message.Request.{Request}
 use Rattle.values.specs.declared.peer.PeerMsg.TheVariants.{AskVote}
@@ -23,9 +23,8 @@ use Rattle.client_msgs.specs.declared.fault.RequestFault.{RequestFault}
 use Rattle.group_quorum.specs.Conf.{Conf}
 use Rattle.replica_model.specs.Peers.{others, progress_of, with_progress, leads_with, newest, peers}
 use Rattle.replica_model.specs.Raise.{raise_and_send}
-use Rattle.replica_model.specs.Votes.{win, stands, stand, with_vote}
+use Rattle.replica_model.specs.Votes.{win, with_vote}
 use Rattle.replica_model.specs.Clients.{asked}
-use Rattle.replica_model.specs.Graft.{answered}
 use Rattle.replica_model.specs.Heard.{accepted_upto}
 use Rattle.replica_model.specs.Tables.{is_taken, taken_with, expects, takes_whole}
 use Rattle.log_laws.proofs.Ending.{all-append}

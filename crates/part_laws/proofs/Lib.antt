@@ -1,6 +1,5 @@
 mod True
 mod Stepped
-pub mod Walk
 mod Runs
 mod Map
 mod Sessions

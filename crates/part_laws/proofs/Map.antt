@@ -136,9 +136,9 @@ module _ (link : Link) (w : World) (none : NoCollision link w) where
 pub mail_known : (link : Link) (events : List Event) (none : NoCollision link (run link events)) → AllByRecursion (KnownMail link (run link events) none) (run link events).messages
 mail_known link events none =
     let w : World = run link events in
-    let good = (run_kept link events none).kept.mail in
-    let told = (run_fair link events).kept.mail in
-    let parts = (run_true link events).mail in
+    let good = (run_kept link events none).standing.mail in
+    let told = (run_fair link events).standing.mail in
+    let parts = (run_true link events).standing.mail in
     all_from (KnownMail link w none) w.messages
     (λ m among. known_msg link w none m.from m.message.names m.message.msg
     (all_at (λ (m : Sent Message). IsTrue link m.message) w.messages m among parts)

@@ -11,14 +11,14 @@ use Rattle.schedule_model.specs.Records.{event_of}
 use Rattle.schedule_model.specs.Written.{Written, On, Off, onto, follow, all_written, last_of}
 use Rattle.replica_model.specs.Path.{Link}
 use Rattle.replica_model.specs.Message.{Message}
-use Rattle.group_model.specs.Group.{Sent, next_message}
+use Rattle.group_model.specs.Group.{next_message}
 use Rattle.group_model.specs.Happens.{Came, Happening, Happened, Broken, Unanswered, happens}
 use Rattle.group_model.specs.Log.{NoCollision}
 use Rattle.group_model.specs.Run.{Enclaves, World, enclaves, group_after, run, empty_world}
 use Rattle.trace_model.specs.Limits.{passed_before, passed_after}
 use Rattle.trace_model.specs.Trace.{Playing, playing, counted, happened_text, within_limits, happened, tried, played, settled, expanded, said, record_played}
 use Rattle.part_laws.specs.Named.{AreNamed, played_from, with_enclaves, PlayedCallsAreNamed, ScheduleCallsAreNamed}
-use Rattle.part_laws.proofs.Walk.{Keeps, Leaves, happens_keeps}
+use Rattle.event_walk.proofs.Walk.{unbroken}
 use Rattle.part_laws.proofs.Handed.{calls_are_named}
 
 -- ---- what holds where each piece ends
@@ -65,12 +65,6 @@ module _ (link : Link) where
     sym (one_more events e ∙ (ap (λ (x : World). group_after x (happens (enclaves link) e x)) (sym is) ∙ ap (group_after w) on)),
   )
 
-  abbrev Nothing : List (Sent Message) → Enclaves → Type 0
-  Nothing messages f = Unit {0}
-
-  keeps_nothing : Keeps link Nothing
-  keeps_nothing = record { start = λ messages f k hello. tt; call = λ messages f k v e input is sent. tt; stop = λ messages f k v. tt }
-
   module _ (p : Play) (good : Stands p) (e : Event) where
     within_ends : (came : Came) (g : World) → IsOfRun g → (o : Option Quantity) → Ends Stands (within_limits (enclaves link) p (happened_text p.group e came) g o)
     within_ends came g (events, is) None = record { group = (events, is); stands = (events, ap (λ (w : World). w.field) is) }
@@ -78,7 +72,7 @@ module _ (link : Link) where
 
     happened_ends : (x : Happening Message Enclaves) → happens (enclaves link) e p.group ≡ x → Ends Stands (happened (enclaves link) p e x)
     happened_ends (Happened came g) is = within_ends came g (run_on p.group g e came good.group is) (passed_after g)
-    happened_ends (Broken at f) is = absurd (subst (Leaves link Nothing keeps_nothing) is (happens_keeps link Nothing keeps_nothing p.group tt e))
+    happened_ends (Broken at f) is = absurd (unbroken link p.group e at f is)
     happened_ends Unanswered is = good
 
     tried_ends : (o : Option Quantity) → Ends Stands (tried (enclaves link) p e o)

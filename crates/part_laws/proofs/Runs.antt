@@ -1,33 +1,30 @@
 -- Every run sends true parts alone, and hands its enclaves nothing but what was sent. So what its learners take was sent.
 use Rattle.log_laws.proofs.History.{any_left, all_more}
-use Rattle.std.proofs.Common.{◌≡◌, ℕ, ◌==◌, ◌-◌, not, Bool, true, false, inl, inr, Option, Some, None, List, [], ◌∷◌, ◌++◌, length, map, slice_get, refl, sym, ◌∙◌, subst}
+use Rattle.std.proofs.Common.{◌≡◌, ℕ, inl, inr, Option, Some, None, List, [], ◌∷◌, ◌++◌, zero, suc, map, refl, sym, subst}
 use Rattle.std.specs.Prelude.{◌⊎◌}
 use Rattle.std.specs.List.{AllByRecursion}
 use Rattle.std.proofs.lemmas.List.{append-nil}
 use Rattle.std.proofs.lemmas.Option.{none-some, same_Some}
-use Rattle.group_quorum.specs.Voters.{is_in}
 use Rattle.values.specs.declared.event.Event.{Event}
 use Rattle.values.specs.declared.peer.PeerMsg.{PeerMsg}
 use Rattle.values.specs.declared.peer.PeerMsg.TheVariants.{Part}
 use Rattle.values.specs.declared.peer.TablePart.{TablePart}
-use Rattle.schedule_model.specs.Reading.{max_u32}
 use Rattle.replica_model.specs.Path.{Link}
 use Rattle.replica_model.specs.Keyed.{value_at}
 use Rattle.replica_model.specs.Replica.{Named, nothing_named, Replica}
 use Rattle.replica_model.specs.Message.{Message}
-use Rattle.replica_model.specs.Call.{Call}
-use Rattle.replica_model.specs.Call as step
-use Rattle.replica_model.specs.Step.{step as step_of}
-use Rattle.group_model.specs.Enclave.{Hello, Begin, Learn, hello_id, HostInput, Tick, Peer, Client, Join, Admit, Remove, Save, Roll, Connect, Margin, Enclave, Called, calls, saves_if, rolls_to, accepts, called, started as started_as}
-use Rattle.group_model.specs.Group.{Sent, sent_by}
+use Rattle.group_model.specs.Enclave.{Hello, Begin, Learn, hello_id, HostInput, Peer, Roll, Enclave, Called, rolls_to, called, started as started_as}
+use Rattle.group_model.specs.Group.{Sent, sent_by, numbered}
 use Rattle.group_model.specs.Log.{AnyByRecursion}
-use Rattle.group_model.specs.Run.{Recorded, Enclaves, moves, newly, start_enclave, run}
-use Rattle.log_laws.proofs.Ending.{all-append}
-use Rattle.log_laws.proofs.Lookups.{put_cases, without_stood}
+use Rattle.group_model.specs.Run.{Recorded, Enclaves, World, moves, newly, start_enclave, run}
 use Rattle.log_laws.proofs.Moving.{all_get}
-use Rattle.part_laws.proofs.True.{HasGoodTables, TakesOf, TakesIn, IsTrue, AreTrue, good_more}
+use Rattle.log_laws.proofs.Standing.{Throughout, Standing, started_throughout, throughout_more, called_throughout, mailed, nothing_stands, standing_on, standing_stopped}
+use Rattle.event_walk.specs.Cases.{Handing, Delivered, handed, after_call, Survives}
+use Rattle.event_walk.specs.Enclosed.{Handed, Enclosed}
+use Rattle.event_walk.proofs.Enclosed.{call_keeps}
+use Rattle.event_walk.proofs.Walk as walk
+use Rattle.part_laws.proofs.True.{HasGoodTables, TakesOf, TakesIn, IsTrue, AreTrue, TrueCall, good_more}
 use Rattle.part_laws.proofs.Stepped.{step_true}
-use Rattle.part_laws.proofs.Walk.{WasSent, Keeps, run_keeps}
 
 abbrev pub PartOf : Named → Named → PeerMsg → Type 0
 PartOf names other (Part term part) = other ≡ names
@@ -41,10 +38,17 @@ IsPartOf names m = PartOf names m.message.names m.message.msg
 abbrev pub WasTold : List (Sent Message) → Named → Type 0
 WasTold messages names = (names ≡ nothing_named) ⊎ AnyByRecursion (IsPartOf names) messages
 
--- the replica of an enclave, and each state of it that was saved
-pub record GoodEnclave (messages : List (Sent Message)) (e : Enclave) : Type 0 where
-  pub now : HasGoodTables (WasTold messages) e.replica
-  pub saved : AllByRecursion (HasGoodTables (WasTold messages)) e.saved
+-- a message that is handed is one of those that were sent
+abbrev pub WasSent : List (Sent Message) → HostInput Message → Type 0
+WasSent messages (Peer from to m) = AnyByRecursion (λ (s : Sent Message). s ≡ record { from = from; to = to; message = m }) messages
+WasSent messages other = Unit {0}
+
+-- what has a number was sent
+among_numbered : (messages : List (Sent Message)) (j : ℕ) (m : Sent Message) → numbered messages j ≡ Some m → AnyByRecursion (λ (s : Sent Message). s ≡ m) messages
+among_numbered messages zero m is = absurd (none-some m is)
+among_numbered [] (suc j) m is = absurd (none-some m is)
+among_numbered (s ∷ messages) (suc zero) m is = inl (same_Some s m is)
+among_numbered (s ∷ messages) (suc (suc j)) m is = inr (among_numbered messages (suc j) m is)
 
 -- nothing is handed at a start
 abbrev pub HandedSent : List (Sent Message) → Option (HostInput Message) → Type 0
@@ -52,8 +56,7 @@ HandedSent messages None = Unit {0}
 HandedSent messages (Some input) = WasSent messages input
 
 pub record TrueRun (link : Link) (messages : List (Sent Message)) (f : Enclaves) : Type 0 where
-  pub states : (v : ℕ) (e : Enclave) → value_at f.running v ≡ Some e → GoodEnclave messages e
-  pub mail : AllByRecursion (λ (m : Sent Message). IsTrue link m.message) messages
+  pub standing : Standing (λ v. HasGoodTables (WasTold messages)) (λ m. IsTrue link m.message) messages f.running
   pub handed : AllByRecursion (λ (r : Recorded). HandedSent messages r.input) f.history
   pub found : AllByRecursion (λ (r : Recorded). HasGoodTables (WasTold messages) r.before) f.history
 
@@ -74,12 +77,6 @@ told_more messages new names (inr told) = inr (any_left (IsPartOf names) message
 state_more : (messages new : List (Sent Message)) (s : Replica) → HasGoodTables (WasTold messages) s → HasGoodTables (WasTold (messages ++ new)) s
 state_more messages new s g = good_more (told_more messages new) s g
 
-enclave_more : (messages new : List (Sent Message)) (e : Enclave) → GoodEnclave messages e → GoodEnclave (messages ++ new) e
-enclave_more messages new e g = record {
-  now = state_more messages new e.replica g.now;
-  saved = all_more (HasGoodTables (WasTold messages)) (HasGoodTables (WasTold (messages ++ new))) (state_more messages new) e.saved g.saved;
-}
-
 -- ---- a part that is handed was sent
 part_told : (from to : ℕ) (names : Named) (term : ℕ) (part : TablePart) (messages : List (Sent Message)) → AnyByRecursion (λ (s : Sent Message). s ≡ record { from = from; to = to; message = record { msg = Part term part; names = names } }) messages → AnyByRecursion (IsPartOf names) messages
 part_told from to names term part [] any = absurd any
@@ -93,80 +90,74 @@ module _ (messages : List (Sent Message)) (from to : ℕ) (names : Named) where
 
 module _ (link : Link) where
   -- ---- one call of an enclave
-  record GoodCalled (messages : List (Sent Message)) (c : Called) : Type 0 where
-    enclave : GoodEnclave messages c.enclave
-    sent : AreTrue link c.call.sent
+  called_true : (messages : List (Sent Message)) (e : Enclave) → Throughout (HasGoodTables (WasTold messages)) e → (input : HostInput Message) → WasSent messages input → Enclosed (TrueCall link (WasTold messages)) e (called link e input)
+  called_true messages e g input sent = call_keeps link e (λ input. TakesIn (WasTold messages)) (λ k. Unit {0}) (λ input. TrueCall link (WasTold messages))
+      (record {
+        stays = λ why x. record { sends = g.now; true = tt };
+        steps = λ input told x. step_true link (WasTold messages) e.replica g.now told x;
+        rolls = λ k s some x. record { sends = all_get (HasGoodTables (WasTold messages)) e.saved k s some g.saved; true = tt };
+      })
+      input (told_so input sent)
+    where
+      told_so : (input : HostInput Message) → WasSent messages input → Handed e (λ input. TakesIn (WasTold messages)) (λ k. Unit {0}) input
+      told_so (Peer from to m) sent = msg_told messages from to m.names m.msg sent
+      told_so other sent = tt
 
-  module _ (messages : List (Sent Message)) (e : Enclave) (g : GoodEnclave messages e) where
-    abbrev Good : Replica → Type 0
-    Good = HasGoodTables (WasTold messages)
-
-    stayed : (call : Call) → call.state ≡ e.replica → call.sent ≡ [] → GoodCalled messages (calls e call)
-    stayed call same none = record { enclave = record { now = subst Good (sym same) g.now; saved = g.saved }; sent = subst (AreTrue link) (sym none) tt }
-
-    stepped : (x : step.Input) → TakesIn (WasTold messages) x → GoodCalled messages (calls e (step_of link e.replica x))
-    stepped x told = let done = step_true link (WasTold messages) e.replica g.now x told in record { enclave = record { now = done.sends; saved = g.saved }; sent = done.true }
-
-    accepted : (mine linked : Bool) (from to : ℕ) (m : Message) → TakesOf (WasTold messages) m.names m.msg → GoodCalled messages (accepts mine linked link e from to m)
-    accepted false linked from to m told = stayed _ refl refl
-    accepted true false from to m told = stayed _ refl refl
-    accepted true true from to m told = stepped (step.Peer from m) told
-
-    saves_good : (room : Bool) → GoodCalled messages (saves_if room e)
-    saves_good true = record { enclave = record { now = g.now; saved = all-append Good e.saved (e.replica ∷ []) g.saved (g.now, tt) }; sent = tt }
-    saves_good false = stayed _ refl refl
-
-    rolls_good : (k : ℕ) (o : Option Replica) → slice_get e.saved k ≡ o → GoodCalled messages (rolls_to e k o)
-    rolls_good k None is = stayed _ refl refl
-    rolls_good k (Some s) is = record { enclave = record { now = all_get Good e.saved k s is g.saved; saved = g.saved }; sent = tt }
-
-    called_good : (input : HostInput Message) → WasSent messages input → GoodCalled messages (called link e input)
-    called_good Tick sent = stepped step.Tick tt
-    called_good (Peer from to m) sent = accepted (to == e.replica.me) (is_in e.links from) from to m (msg_told messages from to m.names m.msg sent)
-    called_good (Client client number bytes) sent = stepped (step.Client client number bytes) tt
-    called_good (Join id) sent = stepped (step.Join id (is_in e.links id)) tt
-    called_good (Admit id) sent = stepped (step.Admit id) tt
-    called_good (Remove id) sent = stepped (step.Remove id) tt
-    called_good Save sent = saves_good (not (length e.saved - 1 == max_u32))
-    called_good (Roll k) sent = rolls_good k (slice_get e.saved k) refl
-    called_good (Connect id) sent = record { enclave = record { now = g.now; saved = g.saved }; sent = tt }
-    called_good (Margin margin) sent = stepped (step.Margin margin) tt
-
-  started_good : (messages : List (Sent Message)) (hello : Hello) → GoodEnclave messages (started_as hello)
-  started_good messages (Begin id margin limit voters) = record { now = tt; saved = (tt, tt) }
-  started_good messages (Learn id linked) = record { now = inl refl; saved = (inl refl, tt) }
-
-  mailed : (v : ℕ) (sent : List (ℕ × Message)) → AreTrue link sent → AllByRecursion (λ (m : Sent Message). IsTrue link m.message) (map (sent_by v) sent)
-  mailed v [] h = tt
-  mailed v (m ∷ sent) h = (h.0, mailed v sent h.1)
+  started_good : (messages : List (Sent Message)) (hello : Hello) → HasGoodTables (WasTold messages) (started_as hello).replica
+  started_good messages (Begin id margin limit voters) = tt
+  started_good messages (Learn id linked) = inl refl
 
   -- ---- one enclave goes on
-  moves_true : (messages : List (Sent Message)) (f : Enclaves) → TrueRun link messages f → (v : ℕ) (before : Replica) → HasGoodTables (WasTold messages) before → (input : Option (HostInput Message)) (c : Called) → GoodCalled messages c → HandedSent messages input → TrueRun link (messages ++ map (sent_by v) c.call.sent) (moves f v before input c)
-  moves_true messages f k v before fine input c good sent =
-      let new : List (Sent Message) = map (sent_by v) c.call.sent in
-      record {
-        states = λ u e is. elim (put_cases f.running v c.enclave u) [
-          | inl here ↦ enclave_more messages new e (subst (GoodEnclave messages) (same_Some c.enclave e (sym here.1 ∙ is)) good.enclave)
-          | inr there ↦ enclave_more messages new e (k.states u e (sym there.1 ∙ is))
-        ];
-        mail = all-append (λ (m : Sent Message). IsTrue link m.message) messages new k.mail (mailed v c.call.sent good.sent);
-        handed = (
-          handed_more messages new input sent,
-          all_more (λ (r : Recorded). HandedSent messages r.input) (λ (r : Recorded). HandedSent (messages ++ new) r.input) (λ r h. handed_more messages new r.input h) f.history k.handed,
-        );
-        found = (
-          state_more messages new before fine,
-          all_more (λ (r : Recorded). HasGoodTables (WasTold messages) r.before) (λ (r : Recorded). HasGoodTables (WasTold (messages ++ new)) r.before) (λ r h. state_more messages new r.before h) f.history k.found,
-        );
-      }
+  module _ (messages : List (Sent Message)) (f : Enclaves) (k : TrueRun link messages f) where
+    moves_true : (v : ℕ) (before : Replica) → HasGoodTables (WasTold messages) before → (input : Option (HostInput Message)) (c : Called) → Throughout (HasGoodTables (WasTold messages)) c.enclave → AreTrue link c.call.sent → HandedSent messages input → TrueRun link (messages ++ map (sent_by v) c.call.sent) (moves f v before input c)
+    moves_true v before fine input c good truly sent =
+        let new : List (Sent Message) = map (sent_by v) c.call.sent in
+        let more = state_more messages new in
+        record {
+          standing = standing_on (λ v. HasGoodTables (WasTold messages)) (λ m. IsTrue link m.message) messages f.running k.standing (λ v. HasGoodTables (WasTold (messages ++ new))) (λ v. more) (λ m. IsTrue link m.message) (λ m h. h)
+              v c.enclave (throughout_more (HasGoodTables (WasTold messages)) _ more c.enclave good) new (mailed (λ m. IsTrue link m.message) v c.call.sent truly);
+          handed = (
+            handed_more messages new input sent,
+            all_more (λ (r : Recorded). HandedSent messages r.input) (λ (r : Recorded). HandedSent (messages ++ new) r.input) (λ r h. handed_more messages new r.input h) f.history k.handed,
+          );
+          found = (
+            more before fine,
+            all_more (λ (r : Recorded). HasGoodTables (WasTold messages) r.before) (λ (r : Recorded). HasGoodTables (WasTold (messages ++ new)) r.before) (λ r h. more r.before h) f.history k.found,
+          );
+        }
 
-  keeps_true : Keeps link (TrueRun link)
-  keeps_true = record {
-    start = λ messages f k hello. subst (λ m. TrueRun link m (start_enclave f hello)) (append-nil messages)
-        (moves_true messages f k (hello_id hello) (started_as hello).replica (started_good messages hello).now None (newly (started_as hello)) (record { enclave = started_good messages hello; sent = tt }) tt);
-    call = λ messages f k v e input is sent. moves_true messages f k v e.replica (k.states v e is).now (Some input) (called link e input) (called_good messages e (k.states v e is) input sent) sent;
-    stop = λ messages f k v. record { states = λ u e is. k.states u e (without_stood f.running v u e is); mail = k.mail; handed = k.handed; found = k.found };
+    start_true : (hello : Hello) → TrueRun link messages (start_enclave f hello)
+    start_true hello =
+        let good = started_good messages hello in
+        subst (λ m. TrueRun link m (start_enclave f hello)) (append-nil messages)
+        (moves_true (hello_id hello) (started_as hello).replica good None (newly (started_as hello)) (started_throughout _ hello good) tt tt)
+
+    call_true : (v : ℕ) (e : Enclave) (input : HostInput Message) → value_at f.running v ≡ Some e → WasSent messages input → TrueRun link (messages ++ map (sent_by v) (called link e input).call.sent) (moves f v e.replica (Some input) (called link e input))
+    call_true v e input is sent =
+        let old = k.standing.states v e is in
+        let done = called_true messages e old input sent in
+        moves_true v e.replica old.now (Some input) (called link e input) (called_throughout _ _ e (called link e input) old done done.call.sends) done.call.true sent
+
+  abbrev TrueWorld : World → Type 0
+  TrueWorld w = TrueRun link w.messages w.field
+
+  was_sent : (w : World) (v : ℕ) (h : Handing w v) → WasSent w.messages (handed h)
+  was_sent w v (Delivered k m is to) = among_numbered w.messages k m is
+  was_sent w v other = tt
+
+  survives : Survives link (λ w. Unit {0}) TrueWorld
+  survives = record {
+    counted = λ w e k. k;
+    begun = λ w limit margin voters c known unset made k. walk.starts_all_keep link (TrueRun link w.messages) c limit c.voters (λ v f among k. start_true w.messages f k (Begin v c.margin limit c.voters)) w.field k;
+    started = λ w setup x set new k. start_true w.messages w.field k (Learn (suc x) w.running);
+    called = λ w v h e is k. call_true w.messages w.field k v e (handed h) is (was_sent w v h);
+    -- a roll is a call like any other
+    rolled = λ w v j e s is some k. subst (λ o. TrueWorld (after_call w v e (Roll j) (rolls_to e j o))) some (call_true w.messages w.field k v e (Roll j) is tt);
+    stopped = λ w v k. record { standing = standing_stopped _ _ w.messages w.field.running k.standing v; handed = k.handed; found = k.found };
+    sorted = λ w lost waiting k. k;
+    wanted = λ w client want core is k. k;
+    heard = λ w client j a core is its has k. k;
   }
 
   pub run_true : (events : List Event) → TrueRun link (run link events).messages (run link events).field
-  run_true events = run_keeps link (TrueRun link) keeps_true (record { states = λ v e is. absurd (none-some e is); mail = tt; handed = tt; found = tt }) events
+  run_true events = walk.run_keeps link (λ w. Unit {0}) TrueWorld (λ w k. tt) survives (record { standing = nothing_stands _ _; handed = tt; found = tt }) events

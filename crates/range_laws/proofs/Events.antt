@@ -37,12 +37,13 @@ use Rattle.log_laws.proofs.Ending.{all-append}
 use Rattle.log_laws.proofs.History.{all_more}
 use Rattle.log_laws.proofs.Lookups.{without_stood}
 use Rattle.log_laws.proofs.Moving.{all_get}
+use Rattle.log_laws.proofs.Standing.{started_throughout}
 use Rattle.range_laws.proofs.Bounds.{still_in}
 use Rattle.range_laws.proofs.Raising.{all_filter, insert_in}
 use Rattle.range_laws.proofs.Confs.{begun_conf}
 use Rattle.range_laws.proofs.Rules.{u64_of, id_low}
 use Rattle.range_laws.proofs.Hearing.{one_number}
-use Rattle.range_laws.proofs.Worlds.{FlightIn, CoreIn, ReportIn, EnclaveIn, MailIn, GivenIn, ClientIn, FieldIn, WorldIn, CameIn, Stays, handed_in, flight_in, wanted_in, want_fault_in, heard_in, world_later, HostIn, CalledIn, called_in, moved_in, IsShort, IsShortWant}
+use Rattle.range_laws.proofs.Worlds.{FlightIn, CoreIn, ReportIn, MailIn, GivenIn, ClientIn, FieldIn, WorldIn, CameIn, Stays, handed_in, flight_in, wanted_in, want_fault_in, heard_in, world_later, HostIn, ReplicaIn, called_in, enclave_after, moved_in, IsShort, IsShortWant}
 use Rattle.range_laws.specs.Ranges.{IsId, AreIds, ConfIn, EntryIn, StateIn, SentIn, AnsweredIn, BatchIn, EventIn, WantIn}
 
 -- how an enclave is started
@@ -59,7 +60,7 @@ given_long : (v : ℕ) (answers : List (ClientId × ℕ × Answer)) → length (
 given_long v [] = refl
 given_long v (a ∷ answers) = ap suc (given_long v answers)
 
-fresh_in : (n : ℕ) (hello : Hello) → IsId (hello_id hello) → HelloIn hello → EnclaveIn n (started hello)
+fresh_in : (n : ℕ) (hello : Hello) → IsId (hello_id hello) → HelloIn hello → ReplicaIn n (started hello).replica
 fresh_in n (Begin id margin limit voters) who x =
     let s : StateIn n (started (Begin id margin limit voters)).replica = record {
       me = who;
@@ -74,7 +75,7 @@ fresh_in n (Begin id margin limit voters) who x =
       tickets = tt;
       halted = tt;
     } in
-    record { now = s; first = x.1; saved = ((s, x.1), tt); few = omega arith }
+    (s, x.1)
 fresh_in n (Learn id linked) who x =
     let s : StateIn n (started (Learn id linked)).replica = record {
       me = who;
@@ -89,10 +90,16 @@ fresh_in n (Learn id linked) who x =
       tickets = tt;
       halted = tt;
     } in
-    record { now = s; first = tt; saved = ((s, tt), tt); few = omega arith }
+    (s, tt)
 
-newly_in : (n : ℕ) (hello : Hello) → IsId (hello_id hello) → HelloIn hello → CalledIn n (newly (started hello))
-newly_in n hello who x = let e = fresh_in n hello who x in record { same = refl; call = still_in n (started hello).replica e.now e.first; saved = e.saved; few = e.few; printed = tt; as_many = omega arith }
+one_saved : (n : ℕ) (hello : Hello) → length (started hello).saved ≤ n + 1
+one_saved n (Begin id margin limit voters) = omega arith
+one_saved n (Learn id linked) = omega arith
+
+started_in : (n : ℕ) (f : Enclaves) (hello : Hello) → FieldIn n f → IsId (hello_id hello) → HelloIn hello → FieldIn n (start_enclave f hello)
+started_in n f hello k who x =
+    let now = fresh_in n hello who x in
+    moved_in n f (hello_id hello) (started hello).replica None (newly (started hello)) k who (record { states = started_throughout (ReplicaIn n) hello now; few = one_saved n hello }) (still_in n (started hello).replica now.0 now.1)
 
 module _ (m v : ℕ) (id : IsId v) where
   mailed : (sent : List (ℕ × Message)) → AllByRecursion (SentIn m) sent → AllByRecursion (MailIn m) (map (sent_by v) sent)
@@ -145,11 +152,12 @@ module _ (n : ℕ) (small : n + 1 ≤ MAX_EVENTS) (link : Link) (hashes : GivesH
       → WorldIn (n + 1) (keeps g v (called link e input).call.batch (called link e input).call.sent (moves g.field v e.replica (Some input) (called link e input))) × CameIn Short (n + 1) (keeps g v (called link e input).call.batch (called link e input).call.sent (moves g.field v e.replica (Some input) (called link e input))) (Replied v (called link e input).call.batch)
   kept_in v id e input is fine =
       let c : Called = called link e input in
-      let x : CalledIn (n + 1) c = called_in n small link hashes e (k.field.running v e is) input fine in
+      let done = called_in n small link hashes e (k.field.running v e is) input fine in
+      let x = done.call in
       let b : Batch = c.call.batch in
       let longer : length (g.messages ++ map (sent_by v) c.call.sent) ≡ length g.messages + length c.call.sent = omega (arith, length-append g.messages (map (sent_by v) c.call.sent), mail_long v c.call.sent) in (
         record {
-          field = moved_in (n + 1) g.field v e.replica (Some input) c now.field id x;
+          field = moved_in (n + 1) g.field v e.replica (Some input) c now.field id (enclave_after n small link hashes e (k.field.running v e is) c done) x.call;
           mail = all-append (MailIn (n + 1)) g.messages (map (sent_by v) c.call.sent) now.mail (mailed (n + 1) v id c.call.sent x.call.sent);
           answers = all-append (GivenIn (n + 1)) g.answers (map (answered_by v) b.answers) now.answers (given (n + 1) v id b.answers x.call.batch.answers);
           cores = k.cores;
@@ -217,12 +225,12 @@ module _ (n : ℕ) (small : n + 1 ≤ MAX_EVENTS) (link : Link) (hashes : GivesH
           let old = fine.running r e is in
           let c : Called = called link e (Connect x) in
           rest (moves f r e.replica (Some (Connect x)) c)
-          (moved_in (n + 1) f r e.replica (Some (Connect x)) c fine ids.0 (record { same = refl; call = still_in (n + 1) e.replica old.now old.first; saved = old.saved; few = old.few; printed = tt; as_many = omega arith }))
+          (moved_in (n + 1) f r e.replica (Some (Connect x)) c fine ids.0 (record { states = record { now = old.states.now; saved = old.states.saved }; few = old.few }) (still_in (n + 1) e.replica old.states.now.0 old.states.now.1))
 
   starts_stays : (x : ℕ) → IsId x → Stays Short (n + 1) (happening.starts (enclaves link) x g)
   starts_stays x id =
       linked_stays x g.running (start_enclave g.field (Learn x g.running)) id k.running
-      (moved_in (n + 1) g.field x (started (Learn x g.running)).replica None (newly (started (Learn x g.running))) now.field id (newly_in (n + 1) (Learn x g.running) id tt))
+      (started_in (n + 1) g.field (Learn x g.running) now.field id tt)
 
   -- clients
   wants_stays : (c : ClientId) → IsTrue (is_client_id c) → (core : Core) → CoreIn core → (most : ℕ) → most ≤ max_u64 → (w : Want) → WantIn w → (Short → IsShortWant most w) → (r : Result Core WantFault) → wanted core w ≡ r → Stays Short (n + 1) (happening.wants (enclaves link) c r g)
@@ -323,7 +331,7 @@ module _ (n : ℕ) (small : n + 1 ≤ MAX_EVENTS) (link : Link) (hashes : GivesH
       all_started c limit le fine [] ids f states = states
       all_started c limit le fine (v ∷ vs) ids f states =
           all_started c limit le fine vs ids.1 (start_enclave f (Begin v c.margin limit c.voters))
-          (moved_in (n + 1) f v (started (Begin v c.margin limit c.voters)).replica None (newly (started (Begin v c.margin limit c.voters))) states ids.0 (newly_in (n + 1) (Begin v c.margin limit c.voters) ids.0 (le, fine)))
+          (started_in (n + 1) f (Begin v c.margin limit c.voters) states ids.0 (le, fine))
 
   first_stays : (margin limit : ℕ) (voters : List ℕ) → EventIn (event.Begin margin limit voters) → Stays (Unit {0}) (n + 1) (happening.begins (enclaves link) limit (conf_of margin voters) g)
   first_stays margin limit voters x =
@@ -333,23 +341,7 @@ module _ (n : ℕ) (small : n + 1 ≤ MAX_EVENTS) (link : Link) (hashes : GivesH
   acts_in_stays : (o : Option Setup) (e : Event) → EventIn e → Stays (IsShort most e) (n + 1) (happening.acts_in (enclaves link) o e g)
   acts_in_stays (Some s) e x = acts_stays e x
   acts_in_stays None (event.Begin margin limit voters) x = first_stays margin limit voters x
-  acts_in_stays None (event.Start r) x = (now n small link hashes g k (Unit {0}), tt)
-  acts_in_stays None (event.Tick r) x = (now n small link hashes g k (Unit {0}), tt)
-  acts_in_stays None (event.Deliver j) x = (now n small link hashes g k (Unit {0}), tt)
-  acts_in_stays None (event.Lose j) x = (now n small link hashes g k (Unit {0}), tt)
-  acts_in_stays None (event.Settle j) x = (now n small link hashes g k (Unit {0}), tt)
-  acts_in_stays None (event.Crash r) x = (now n small link hashes g k (Unit {0}), tt)
-  acts_in_stays None (event.Save r) x = (now n small link hashes g k (Unit {0}), tt)
-  acts_in_stays None (event.Roll r j) x = (now n small link hashes g k (Unit {0}), tt)
-  acts_in_stays None (event.Join r i) x = (now n small link hashes g k (Unit {0}), tt)
-  acts_in_stays None (event.Admit r i) x = (now n small link hashes g k (Unit {0}), tt)
-  acts_in_stays None (event.Remove r i) x = (now n small link hashes g k (Unit {0}), tt)
-  acts_in_stays None (event.Ask r c number bytes) x = (now n small link hashes g k (Unit {0}), tt)
-  acts_in_stays None (event.Want c w) x = (now n small link hashes g k (Unit {0}), tt)
-  acts_in_stays None (event.Say c r) x = (now n small link hashes g k (Unit {0}), tt)
-  acts_in_stays None (event.Hear c j) x = (now n small link hashes g k (Unit {0}), tt)
-  acts_in_stays None (event.Margin r margin) x = (now n small link hashes g k (Unit {0}), tt)
-  acts_in_stays None (event.Again c) x = (now n small link hashes g k (Unit {0}), tt)
+  acts_in_stays None e x = (now n small link hashes g k (Unit {0}), tt)
 
 pub happens_stays : (n : ℕ) → n + 1 ≤ MAX_EVENTS → (link : Link) → GivesHashes link → (most : ℕ) → most ≤ max_u64 → (g : World) → WorldIn n g → (e : Event) → EventIn e → Stays (IsShort most e) (n + 1) (happens (enclaves link) e g)
 happens_stays n small link hashes most fits g k e x =

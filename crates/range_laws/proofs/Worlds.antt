@@ -1,11 +1,9 @@
 -- What a run holds stays in range, event by event.
-use Rattle.std.proofs.Common.{◌≡◌, ℕ, ◌+◌, ◌-◌, ◌*◌, ◌≤◌, ◌==◌, ◌&&◌, not, Bool, true, false, cond, inl, inr, Option, Some, None, Result, Ok, Err, List, [], ◌∷◌, length, map, slice_get, refl, sym, subst, ◌∙◌, arith}
+use Rattle.std.proofs.Common.{◌≡◌, ℕ, ◌+◌, ◌-◌, ◌*◌, ◌≤◌, ◌==◌, ◌&&◌, Bool, true, false, cond, inl, inr, Option, Some, None, Result, Ok, Err, List, [], ◌∷◌, length, map, refl, sym, ap, subst, arith}
 use Rattle.std.specs.Prelude.{IsTrue, IfSome, IfOk, nat_le, nat_lt}
 use Rattle.std.specs.List.{AllByRecursion, list_all}
 use Rattle.std.proofs.lemmas.Bool.{cond_both, le-leb, leb-true, ltb-false, eqb-true, and_parts, and_from}
 use Rattle.std.proofs.lemmas.List.{length-append}
-use Rattle.std.proofs.lemmas.Option.{same_Some}
-use Rattle.group_quorum.specs.Voters.{is_in}
 use Rattle.values.specs.declared.limits.TheConstants.{MAX_EVENTS}
 use Rattle.values.specs.declared.batch.Refusal.TheVariants.{NoLink, NoState, NotForMe}
 use Rattle.values.specs.declared.entry.Hash.{Hash}
@@ -42,19 +40,20 @@ use Rattle.replica_model.specs.Path.{Link}
 use Rattle.replica_model.specs.Keyed.{value_at}
 use Rattle.replica_model.specs.Message.{Message}
 use Rattle.replica_model.specs.Replica.{Named, Replica}
-use Rattle.replica_model.specs.Call.{still}
+use Rattle.replica_model.specs.Call.{Call, still}
 use Rattle.replica_model.specs.Call as step
 use Rattle.replica_model.specs.Step.{step as step_of}
-use Rattle.group_model.specs.Enclave.{HostInput, Tick, Peer, Client, Join, Admit, Remove, Save, Roll, Connect, Margin, Enclave, Called, calls, saves_if, rolls_to, accepts, called}
+use Rattle.group_model.specs.Enclave.{HostInput, Peer, Client, Join, Admit, Remove, Roll, Margin, Enclave, Called, called}
 use Rattle.group_model.specs.Group.{Sent, Answered}
 use Rattle.group_model.specs.Happens as happening
 use Rattle.group_model.specs.Happens.{Came, Refused, Replied, Reported, Passed, Happening, Happened, Broken, Unanswered}
 use Rattle.group_model.specs.Run.{Enclaves, World, moves, enclaves}
 use Rattle.trace_model.specs.TraceLines.{is_byte, is_hash, is_response, is_u32, is_u64, is_client_id, refusal_numbers, group_refusal_numbers}
 use Rattle.trace_model.specs.Hashing.{GivesHashes}
-use Rattle.log_laws.proofs.Ending.{all-append}
 use Rattle.log_laws.proofs.History.{all_more}
-use Rattle.log_laws.proofs.Lookups.{put_cases}
+use Rattle.log_laws.proofs.Standing.{Throughout, throughout_more, called_throughout, goes_on}
+use Rattle.event_walk.specs.Enclosed.{Idle, Links, Saves, Full, NotMine, NotLinked, NotThere, idle_input, idle_call, Handed, Enclosed}
+use Rattle.event_walk.proofs.Enclosed.{call_keeps}
 use Rattle.log_laws.proofs.Moving.{all_get}
 use Rattle.range_laws.proofs.Bounds.{call_later, answer_later, state_later, message_later, still_in}
 use Rattle.range_laws.proofs.Rules.{u64_of, id_low, refusing}
@@ -83,10 +82,11 @@ ReportIn (report.Undecided last) = last ≤ max_u64
 ReportIn other = Unit {0}
 
 -- ---- a world in range, of so many events
+abbrev pub ReplicaIn : ℕ → Replica → Type 0
+ReplicaIn n s = StateIn n s × FirstIn s.role s.first
+
 pub record EnclaveIn (n : ℕ) (e : Enclave) : Type 0 where
-  pub now : StateIn n e.replica
-  pub first : FirstIn e.replica.role e.replica.first
-  pub saved : AllByRecursion (λ (s : Replica). StateIn n s × FirstIn s.role s.first) e.saved
+  pub states : Throughout (ReplicaIn n) e
   pub few : length e.saved ≤ n + 1
 
 abbrev pub MailIn : ℕ → Sent Message → Type 0
@@ -305,9 +305,7 @@ heard_in n small core a fine given = by_flight core.flight fine.flight
 -- ---- later
 pub enclave_later : (n m : ℕ) → n ≤ m → (e : Enclave) → EnclaveIn n e → EnclaveIn m e
 enclave_later n m le e h = record {
-  now = state_later n m le e.replica h.now;
-  first = h.first;
-  saved = all_more (λ (s : Replica). StateIn n s × FirstIn s.role s.first) (λ (s : Replica). StateIn m s × FirstIn s.role s.first) (λ s x. (state_later n m le s x.0, x.1)) e.saved h.saved;
+  states = throughout_more (ReplicaIn n) (ReplicaIn m) (λ s x. (state_later n m le s x.0, x.1)) e h.states;
   few = omega (arith, h.few, le);
 }
 
@@ -336,88 +334,91 @@ HostIn m (Roll state) = state ≤ max_u32
 HostIn m (Margin margin) = margin ≤ 15
 HostIn m other = Unit {0}
 
-pub record CalledIn (m : ℕ) (c : Called) : Type 0 where
-  pub same : c.call.state ≡ c.enclave.replica
-  pub call : CallIn m c.call
-  pub saved : AllByRecursion (λ (s : Replica). StateIn m s × FirstIn s.role s.first) c.enclave.saved
-  pub few : length c.enclave.saved ≤ m + 1
-  pub printed : PrintedIn m c.call.batch.sent
-  pub as_many : length c.call.batch.sent ≤ length c.call.sent
+-- what a call left is in range, and so is what is printed of it
+pub record LeftIn (m : ℕ) (c : Call) : Type 0 where
+  pub call : CallIn m c
+  pub printed : PrintedIn m c.batch.sent
+  pub as_many : length c.batch.sent ≤ length c.sent
 
 module _ (n : ℕ) (small : n + 1 ≤ MAX_EVENTS) (link : Link) (hashes : GivesHashes link) (e : Enclave) (old : EnclaveIn n e) where
-  abbrev m : ℕ
-  m = n + 1
-
-  later : EnclaveIn m e
+  later : EnclaveIn (n + 1) e
   later = enclave_later n (n + 1) (omega arith) e old
 
-  stepped : (x : step.Input) → InputIn (n + 1) small link hashes x → CalledIn (n + 1) (calls e (step_of link e.replica x))
-  stepped x fine = record {
-    same = refl;
-    call = step_in (n + 1) small link hashes e.replica later.now later.first (omega (arith, old.now.path.long)) (omega (arith, old.now.term)) x fine;
-    saved = later.saved;
-    few = later.few;
-    printed = printed_in (n + 1) (step_of link e.replica x).sent (step_in (n + 1) small link hashes e.replica later.now later.first (omega (arith, old.now.path.long)) (omega (arith, old.now.term)) x fine).sent;
-    as_many = as_many_sent (step_of link e.replica x).sent;
-  }
+  state : StateIn (n + 1) e.replica
+  state = later.states.now.0
 
-  stilled : CallIn (n + 1) (still e.replica)
-  stilled = still_in (n + 1) e.replica later.now later.first
+  first : FirstIn e.replica.role e.replica.first
+  first = later.states.now.1
 
-  refused : (r : _) → IsTrue (list_all is_u64 (refusal_numbers r)) → CalledIn (n + 1) (calls e (step.refuses e.replica r))
-  refused r x = record { same = refl; call = refusing (n + 1) small link hashes e.replica later.now later.first r x; saved = later.saved; few = later.few; printed = tt; as_many = omega arith }
+  abbrev In : step.Input → Type 0
+  In told = InputIn (n + 1) small link hashes told
+
+  -- a frame's addressee is in range too
+  abbrev ToldIn : HostInput Message → step.Input → Type 0
+  ToldIn (Peer from to y) told = IsId to × In told
+  ToldIn other told = In told
+
+  told_so : (input : HostInput Message) → HostIn (n + 1) input → Handed e ToldIn (λ k. k ≤ max_u32) input
+  told_so (Peer from to y) x = (x.1, (x.0, x.2))
+  told_so other x = x
+
+  told_in : (input : HostInput Message) (told : step.Input) → ToldIn input told → In told
+  told_in (Peer from to y) told x = x.1
+  told_in other told x = x
+
+  stepped : (x : step.Input) → In x → LeftIn (n + 1) (step_of link e.replica x)
+  stepped x fine =
+      let call = step_in (n + 1) small link hashes e.replica state first (omega (arith, old.states.now.0.path.long)) (omega (arith, old.states.now.0.term)) x fine in
+      record { call = call; printed = printed_in (n + 1) (step_of link e.replica x).sent call.sent; as_many = as_many_sent (step_of link e.replica x).sent }
+
+  stilled : (s : Replica) → ReplicaIn (n + 1) s → LeftIn (n + 1) (still s)
+  stilled s x = record { call = still_in (n + 1) s x.0 x.1; printed = tt; as_many = omega arith }
+
+  refused : (r : _) → IsTrue (list_all is_u64 (refusal_numbers r)) → LeftIn (n + 1) (step.refuses e.replica r)
+  refused r x = record { call = refusing (n + 1) small link hashes e.replica state first r x; printed = tt; as_many = omega arith }
 
   id_u64 : (v : ℕ) → IsId v → IsTrue (list_all is_u64 (v ∷ []))
   id_u64 v id = one_number v (u64_of v (omega (arith, id_low v id)))
 
-  accepted : (mine linked : Bool) (from to : ℕ) (x : Message) → IsId from → IsId to → MessageIn (n + 1) x → CalledIn (n + 1) (accepts mine linked link e from to x)
-  accepted false linked from to x a b fine = refused (NotForMe to) (id_u64 to b)
-  accepted true false from to x a b fine = refused (NoLink from) (id_u64 from a)
-  accepted true true from to x a b fine = stepped (step.Peer from x) (a, fine)
-
   u32_number : (k : ℕ) → k ≤ max_u32 → IsTrue (list_all is_u64 (k ∷ []))
   u32_number k le = one_number k (le-leb k max_u64 (omega (arith, le)))
 
-  saves_in : (room : Bool) → CalledIn (n + 1) (saves_if room e)
-  saves_in true = record {
-    same = refl;
+  stays : (why : Idle) → Handed e ToldIn (λ k. k ≤ max_u32) (idle_input why) → LeftIn (n + 1) (idle_call e why)
+  stays (Links id) x = stilled e.replica (state, first)
+  stays Saves x = record {
     call = record {
-      state = later.now;
-      first = later.first;
+      state = state;
+      first = first;
       sent = tt;
       batch = record { lead = tt; members = tt; halt = tt; taken = tt; commits = tt; answers = tt; saved = u64_of (length e.saved) (omega (arith, old.few, small)); refused = tt };
       appends = tt;
     };
-    saved = all-append (λ (s : Replica). StateIn (n + 1) s × FirstIn s.role s.first) e.saved (e.replica ∷ []) later.saved ((later.now, later.first), tt);
-    few = omega (arith, length-append e.saved (e.replica ∷ []), old.few);
     printed = tt;
     as_many = omega arith;
   }
-  saves_in false = refused (NoState max_u32) refl
+  stays Full x = refused (NoState max_u32) refl
+  stays (NotMine from to y) x = refused (NotForMe to) (id_u64 to x.0)
+  stays (NotLinked from to y) x = refused (NoLink from) (id_u64 from x.1.0)
+  stays (NotThere k) x = refused (NoState k) (u32_number k x)
 
-  rolls_in : (k : ℕ) → k ≤ max_u32 → (o : Option Replica) → slice_get e.saved k ≡ o → CalledIn (n + 1) (rolls_to e k o)
-  rolls_in k le None is = refused (NoState k) (u32_number k le)
-  rolls_in k le (Some s) is =
-      let x = all_get (λ (s : Replica). StateIn (n + 1) s × FirstIn s.role s.first) e.saved k s is later.saved in
-      record { same = refl; call = still_in (n + 1) s x.0 x.1; saved = later.saved; few = later.few; printed = tt; as_many = omega arith }
+  pub called_in : (input : HostInput Message) → HostIn (n + 1) input → Enclosed (LeftIn (n + 1)) e (called link e input)
+  called_in input x = call_keeps link e ToldIn (λ k. k ≤ max_u32) (λ input. LeftIn (n + 1))
+      (record {
+        stays = stays;
+        steps = λ input told x. stepped told (told_in input told x);
+        rolls = λ k s some x. stilled s (all_get (ReplicaIn (n + 1)) e.saved k s some later.states.saved);
+      })
+      input (told_so input x)
 
-  pub called_in : (input : HostInput Message) → HostIn (n + 1) input → CalledIn (n + 1) (called link e input)
-  called_in Tick x = stepped step.Tick tt
-  called_in (Peer from to y) x = accepted (to == e.replica.me) (is_in e.links from) from to y x.0 x.1 x.2
-  called_in (Client c number bytes) x = stepped (step.Client c number bytes) x
-  called_in (Join id) x = stepped (step.Join id (is_in e.links id)) x
-  called_in (Admit id) x = stepped (step.Admit id) x
-  called_in (Remove id) x = stepped (step.Remove id) x
-  called_in Save x = saves_in (not (length e.saved - 1 == max_u32))
-  called_in (Roll k) x = rolls_in k x (slice_get e.saved k) refl
-  called_in (Connect id) x = record { same = refl; call = stilled; saved = later.saved; few = later.few; printed = tt; as_many = omega arith }
-  called_in (Margin margin) x = stepped (step.Margin margin) x
+  -- the enclave has at most one state more than before
+  pub enclave_after : (c : Called) → Enclosed (LeftIn (n + 1)) e c → EnclaveIn (n + 1) c.enclave
+  enclave_after c done = record {
+    states = called_throughout (ReplicaIn (n + 1)) (LeftIn (n + 1)) e c later.states done (done.call.call.state, done.call.call.first);
+    few = elim done.saved [ inl same ↦ omega (arith, ap length same, old.few) | inr more ↦ omega (arith, ap length more, length-append e.saved (e.replica ∷ []), old.few) ];
+  }
 
-pub moved_in : (m : ℕ) (f : Enclaves) (v : ℕ) (before : Replica) (input : Option (HostInput Message)) (c : Called) → FieldIn m f → IsId v → CalledIn m c → FieldIn m (moves f v before input c)
-moved_in m f v before input c k id x = record {
-  running = λ u e is. elim (put_cases f.running v c.enclave u) [
-    | inl here ↦ subst (EnclaveIn m) (same_Some c.enclave e (sym here.1 ∙ is)) (record { now = subst (StateIn m) x.same x.call.state; first = subst (λ (s : Replica). FirstIn s.role s.first) x.same x.call.first; saved = x.saved; few = x.few })
-    | inr there ↦ k.running u e (sym there.1 ∙ is)
-  ];
-  history = (record { replica = id; call = x.call }, k.history);
+pub moved_in : (m : ℕ) (f : Enclaves) (v : ℕ) (before : Replica) (input : Option (HostInput Message)) (c : Called) → FieldIn m f → IsId v → EnclaveIn m c.enclave → CallIn m c.call → FieldIn m (moves f v before input c)
+moved_in m f v before input c k id now call = record {
+  running = goes_on (λ u. EnclaveIn m) (λ u. EnclaveIn m) f.running v c.enclave now (λ u e apart old. old) k.running;
+  history = (record { replica = id; call = call }, k.history);
 }

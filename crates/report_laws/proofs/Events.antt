@@ -5,7 +5,6 @@ use Rattle.std.specs.List.{AllByRecursion}
 use Rattle.std.proofs.lemmas.Bool.{cases_Bool}
 use Rattle.std.proofs.lemmas.List.{append-nil}
 use Rattle.std.proofs.lemmas.Slice.Eq.{bytes_eq-Decides}
-use Rattle.group_quorum.specs.Conf.{Conf}
 use Rattle.values.specs.declared.event.Event.{Event}
 use Rattle.values.specs.declared.ids.ClientId.{ClientId}
 use Rattle.values.specs.declared.want.Want.{Want}
@@ -17,8 +16,7 @@ use Rattle.replica_model.specs.Call.{Call}
 use Rattle.group_model.specs.Enclave.{Begin, Learn, Hello, hello_id, HostInput, Roll, Connect, started}
 use Rattle.group_model.specs.Enclave as group_enclave
 use Rattle.group_model.specs.Group.{Answered, Hearing, answered_by, numbered, core_of, put_core, is_client}
-use Rattle.group_model.specs.Happens as happening
-use Rattle.group_model.specs.Run.{Enclaves, World, moves, newly, start_enclave, enclaves, run}
+use Rattle.group_model.specs.Run.{Enclaves, World, newly, start_enclave, run}
 use Rattle.group_model.specs.Log.{outcomes_in}
 use Rattle.group_model.specs.Reports.{Names, IsOnlySaid}
 use Rattle.group_model.proofs.Cores.{same_client, client_self, core_of-put_same, core_of-put_other}
@@ -42,10 +40,6 @@ module _ (c : ClientId) where
   start_follows g f hello k = λ only.
       subst (λ a. Follows c (core_for g.cores c) a g.hearings (start_enclave f hello).history) (append-nil g.answers)
       (call_follows c (core_for g.cores c) g.answers g.hearings f.history (k only) (hello_id hello) (started hello).replica None (newly (started hello)).call tt)
-
-  starts_all_follows : (link : Link) (g : World) (d : Conf) (limit : ℕ) (vs : List ℕ) (f : Enclaves) → FieldFollows g f → FieldFollows g (happening.starts_all (enclaves link) f d limit vs)
-  starts_all_follows link g d limit [] f k = k
-  starts_all_follows link g d limit (v ∷ vs) f k = starts_all_follows link g d limit vs (start_enclave f (Begin v d.margin limit d.voters)) (start_follows g f (Begin v d.margin limit d.voters) k)
 
 module _ (c : ClientId) (g : World) (k : WorldFollows c g) where
   put_follows : (d : ClientId) (core : Core) (hearings : List Hearing) → (d ≡ c → IsOnlySaid g c → Follows c core g.answers hearings g.field.history) → (is_client d c ≡ false → IsOnlySaid g c → Follows c (core_for g.cores c) g.answers hearings g.field.history) → IsOnlySaid g c → Follows c (core_for (put_core g.cores d core) c) g.answers hearings g.field.history
@@ -88,14 +82,12 @@ module _ (c : ClientId) (g : World) (k : WorldFollows c g) where
   calls : (v : ℕ) (before : Replica) (input : Option (HostInput Message)) (call : Call) → (IsOnlySaid g c → InputSaid c (core_for g.cores c).last (core_for g.cores c).flight input) → IsOnlySaid g c → Follows c (core_for g.cores c) (g.answers ++ map (answered_by v) call.batch.answers) g.hearings (with_call g.field.history v before input call)
   calls v before input call x only = call_follows c (core_for g.cores c) g.answers g.hearings g.field.history (k only) v before input call (x only)
 
-survives : (c : ClientId) (link : Link) → Survives link (WorldFollows c)
+survives : (c : ClientId) (link : Link) → Survives link (λ w. Unit {0}) (WorldFollows c)
 survives c link = record {
   counted = λ w e k only. k only.1;
-  begun = λ w limit margin voters d unset made k. starts_all_follows c link w d limit d.voters w.field k;
+  begun = λ w limit margin voters d known unset made k. walk.starts_all_keep link (FieldFollows c w) d limit d.voters (λ v f among. start_follows c w f (Begin v d.margin limit d.voters)) w.field k;
   started = λ w setup x set new k. start_follows c w w.field (Learn (suc x) w.running) k;
-  connected = λ w x r e is k only. subst (λ a. Follows c (core_for w.cores c) a w.hearings (moves w.field r e.replica (Some (Connect x)) (group_enclave.called link e (Connect x))).history) (append-nil w.answers) (calls c w k r e.replica (Some (Connect x)) (group_enclave.called link e (Connect x)).call (λ only. tt) only);
   called = λ w v h e is k. calls c w k v e.replica (Some (handed h)) (group_enclave.called link e (handed h)).call (said_handed c w k v h);
-  refused = λ w v j e is none k. calls c w k v e.replica (Some (Roll j)) (group_enclave.rolls_to e j None).call (λ only. tt);
   rolled = λ w v j e s is some k. calls c w k v e.replica (Some (Roll j)) (group_enclave.rolls_to e j (Some s)).call (λ only. tt);
   stopped = λ w v k. k;
   sorted = λ w lost waiting k. k;
@@ -105,4 +97,4 @@ survives c link = record {
 
 -- in every run
 pub run_follows : (c : ClientId) (link : Link) (events : List Event) → WorldFollows c (run link events)
-run_follows c link events = walk.run_keeps link (WorldFollows c) (survives c link) (λ only. record { fits = tt; said = tt; listed = tt; heard = tt; began = tt }) events
+run_follows c link events = walk.run_keeps link (λ w. Unit {0}) (WorldFollows c) (λ w k. tt) (survives c link) (λ only. record { fits = tt; said = tt; listed = tt; heard = tt; began = tt }) events

@@ -18,7 +18,7 @@ use Rattle.trace_model.specs.Limits.{passed_before, passed_after}
 use Rattle.trace_model.specs.Trace.{Playing, counted, happened_text, within_limits, happened, tried, played, settled, expanded, said, record_played, records_played}
 use Rattle.trace_model.specs.Driven.{Driving, answer_in, asks_target, carries_if, driven_by, driven_record, driven_said, driver_made, drives, drives_on, drives_settled, drives_want, flight_of, hears_answer, sees_answer, takes_turn, takes_turns, turns_end, wakes_target}
 use Rattle.trace_model.specs.Driver.{Driver, Turn, begin_want, max_turns, next_turn}
-use Rattle.part_laws.proofs.Walk.{Keeps, Leaves, happens_keeps}
+use Rattle.event_walk.proofs.Walk.{unbroken}
 
 abbrev NotAtFrame : Stop → Type 0
 NotAtFrame (AtRecord number fault) = Unit {0}
@@ -56,12 +56,6 @@ module _ (link : Link) where
   Play = Playing Message Enclaves
 
   -- ---- one event
-  abbrev Nothing : List (Sent Message) → Enclaves → Type 0
-  Nothing messages f = Unit {0}
-
-  keeps_nothing : Keeps link Nothing
-  keeps_nothing = record { start = λ messages f k hello. tt; call = λ messages f k v e input is sent. tt; stop = λ messages f k v. tt }
-
   module _ (p : Play) (e : Event) where
     within_unbroken : (came : Came) (g : World) (o : Option Quantity) → Unbroken (within_limits (enclaves link) p (happened_text p.group e came) g o)
     within_unbroken came g None = tt
@@ -69,7 +63,7 @@ module _ (link : Link) where
 
     happened_unbroken : (x : Happening Message Enclaves) → happens (enclaves link) e p.group ≡ x → Unbroken (happened (enclaves link) p e x)
     happened_unbroken (Happened came g) is = within_unbroken came g (passed_after g)
-    happened_unbroken (Broken at f) is = absurd (subst (Leaves link Nothing keeps_nothing) is (happens_keeps link Nothing keeps_nothing p.group tt e))
+    happened_unbroken (Broken at f) is = absurd (unbroken link p.group e at f is)
     happened_unbroken Unanswered is = tt
 
     tried_unbroken : (o : Option Quantity) → Unbroken (tried (enclaves link) p e o)
