@@ -65,9 +65,9 @@ module _ (link : Link) (s : Setup) (log : Path) (e : Event) (opened : List ℕ) 
     };
   }
 
-  unless_steps : (b : Bool) (refusal : GroupRefusal) (next : World → Happening Message Enclaves) → (b ≡ false → Step (next g)) → Step (happening.unless (enclaves link) b refusal g next)
-  unless_steps true refusal next h = refuses refusal
-  unless_steps false refusal next h = h refl
+  refused_if_steps : (b : Bool) (refusal : GroupRefusal) (next : World → Happening Message Enclaves) → (b ≡ false → Step (next g)) → Step (happening.refused_if (enclaves link) b refusal g next)
+  refused_if_steps true refusal next h = refuses refusal
+  refused_if_steps false refusal next h = h refl
 
   runs_so : (v : ℕ) → not (is_in g.running v) ≡ false → Running g.field v
   runs_so v h = runs v (not_false (is_in g.running v) h)
@@ -134,13 +134,13 @@ module _ (link : Link) (s : Setup) (log : Path) (e : Event) (opens : Opens s [] 
 
   tells_steps : (v : ℕ) (input : HostInput Message) → KnownHostInput g.committed g.confs input → Steps s.limit log e g (happening.tells (enclaves link) v input g)
   tells_steps v input known =
-      unless_steps link s log e [] opens g set runs (not (is_in g.running v)) _ (happening.calls (enclaves link) v input)
+      refused_if_steps link s log e [] opens g set runs (not (is_in g.running v)) _ (happening.calls (enclaves link) v input)
       (λ h. replied_steps v input (value_at g.field.running v) refl (runs_so link s log e [] opens g set runs v h) known)
 
   loses_steps : (j : ℕ) (o : Option (Sent Message)) → Steps s.limit log e g (happening.loses (enclaves link) j o g)
   loses_steps j None = refuses link s log e [] opens g set runs _
   loses_steps j (Some m) =
-      unless_steps link s log e [] opens g set runs (is_in g.lost j) _ (λ g. Happened Passed (record g { lost = j ∷ g.lost; waiting = but j g.waiting }))
+      refused_if_steps link s log e [] opens g set runs (is_in g.lost j) _ (λ g. Happened Passed (record g { lost = j ∷ g.lost; waiting = but j g.waiting }))
       (λ h. quiet Passed (record g { lost = j ∷ g.lost; waiting = but j g.waiting }) refl refl refl refl runs (λ a. a) (λ book confs rolled m a. refl))
 
   wants_steps : (c : ClientId) (r : Result Core WantFault) → Steps s.limit log e g (happening.wants (enclaves link) c r g)
@@ -159,13 +159,13 @@ module _ (link : Link) (s : Setup) (log : Path) (e : Event) (opens : Opens s [] 
       silent None book confs rolled m n = refl
       silent (Some report) book confs rolled m n = refl
 
-      reported : (x : Core × Option Report) → Steps s.limit log e g (happening.told (enclaves link) c core a x g)
+      reported : (x : Core × Option Report) → Steps s.limit log e g (happening.hears_report (enclaves link) c core a x g)
       reported (after, report) = quiet _ _ refl refl refl refl runs (λ a. a) (silent report)
 
   hears_steps : (c : ClientId) (j : ℕ) (o : Option Answered) → Steps s.limit log e g (happening.hears (enclaves link) c j o g)
   hears_steps c j None = refuses link s log e [] opens g set runs _
   hears_steps c j (Some a) =
-      unless_steps link s log e [] opens g set runs (not (is_client a.client c)) _ (happening.hears_with (enclaves link) c a (core_of g.cores c)) (λ h. hears_with_steps c a (core_of g.cores c))
+      refused_if_steps link s log e [] opens g set runs (not (is_client a.client c)) _ (happening.hears_with (enclaves link) c a (core_of g.cores c)) (λ h. hears_with_steps c a (core_of g.cores c))
 
   crashes_steps : (v : ℕ) → Steps s.limit log e g (happening.crashes (enclaves link) v g)
   crashes_steps v = quiet Passed _ refl refl refl refl (λ u h. without_runs g.field v g.running u runs h) (λ a. a) (λ book confs rolled m a. refl)
@@ -211,8 +211,8 @@ module _ (link : Link) (s : Setup) (log : Path) (e : Event) (opens : Opens s [] 
   delivers_steps : (j : ℕ) (o : Option (Sent Message)) → ((m : Sent Message) → o ≡ Some m → IsTable g.committed g.confs m.message.names.path) → Steps s.limit log e g (happening.delivers (enclaves link) j o g)
   delivers_steps j None good = refuses link s log e [] opens g set runs _
   delivers_steps j (Some m) good =
-      unless_steps link s log e [] opens g set runs (is_in g.lost j) _ (λ g. happening.running (enclaves link) m.to g (happening.hands (enclaves link) j m))
-      (λ h. unless_steps link s log e [] opens g set runs (not (is_in g.running m.to)) _ (happening.hands (enclaves link) j m)
+      refused_if_steps link s log e [] opens g set runs (is_in g.lost j) _ (λ g. happening.running (enclaves link) m.to g (happening.hands (enclaves link) j m))
+      (λ h. refused_if_steps link s log e [] opens g set runs (not (is_in g.running m.to)) _ (happening.hands (enclaves link) j m)
       (λ h. from_waiting (but j g.waiting) (happening.hands (enclaves link) j m g) (replied_steps link s log e opens (record g { waiting = but j g.waiting }) set runs k m.to (Peer m.from m.to m.message) (value_at g.field.running m.to) refl (runs_so link s log e [] opens g set runs m.to h) (good m refl))))
 
 -- a roll
@@ -225,8 +225,8 @@ module _ (link : Link) (s : Setup) (log : Path) (v j : ℕ) (g : World) (set : g
 
   rolls_steps : Steps s.limit log (event.Roll v j) g (happening.running (enclaves link) v g (happening.rolls (enclaves link) v j))
   rolls_steps =
-      unless_steps link s log e (v ∷ []) opens g set runs (not (is_in g.running v)) _ (happening.rolls (enclaves link) v j)
-      (λ h. unless_steps link s log e (v ∷ []) opens g set runs (not (nat_le j (saves_of g.saves v))) _ (λ g. happening.rolled (enclaves link) v g ((enclaves link).call g.field v (Roll j)))
+      refused_if_steps link s log e (v ∷ []) opens g set runs (not (is_in g.running v)) _ (happening.rolls (enclaves link) v j)
+      (λ h. refused_if_steps link s log e (v ∷ []) opens g set runs (not (nat_le j (saves_of g.saves v))) _ (λ g. happening.rolled (enclaves link) v g ((enclaves link).call g.field v (Roll j)))
       (λ _. by_value (value_at g.field.running v) refl (runs_so link s log e (v ∷ []) opens g set runs v h)))
     where
       same_seen : g.committed ≡ max g.committed 0
@@ -278,12 +278,12 @@ module _ (link : Link) (s : Setup) (log : Path) (g : World) (set : g.setup ≡ S
   acts_steps : (e : Event) → IsPlain e → Steps s.limit log e g (happening.acts (enclaves link) e g)
   acts_steps (event.Begin margin limit voters) plain = absurd plain
   acts_steps (event.Start zero) plain = passing link s log _ (λ b c r o n. refl) g set runs k
-  acts_steps (event.Start (suc x)) plain = unless_steps link s log _ [] (λ b c r o n. refl) g set runs (is_in g.started (suc x)) _ (happening.starts (enclaves link) (suc x)) (λ h. starts_steps link s log _ (λ b c r o n. refl) g set runs k (suc x))
+  acts_steps (event.Start (suc x)) plain = refused_if_steps link s log _ [] (λ b c r o n. refl) g set runs (is_in g.started (suc x)) _ (happening.starts (enclaves link) (suc x)) (λ h. starts_steps link s log _ (λ b c r o n. refl) g set runs k (suc x))
   acts_steps (event.Tick v) plain = tells_steps link s log _ (λ b c r o n. refl) g set runs k v Tick tt
   acts_steps (event.Deliver j) plain = delivers_steps link s log _ (λ b c r o n. refl) g set runs k j (numbered g.messages j) (mail_at j)
   acts_steps (event.Lose j) plain = loses_steps link s log _ (λ b c r o n. refl) g set runs k j (numbered g.messages j)
   acts_steps (event.Settle n) plain = passing link s log _ (λ b c r o n. refl) g set runs k
-  acts_steps (event.Crash v) plain = unless_steps link s log _ [] (λ b c r o n. refl) g set runs (not (is_in g.running v)) _ (happening.crashes (enclaves link) v) (λ h. crashes_steps link s log _ (λ b c r o n. refl) g set runs k v)
+  acts_steps (event.Crash v) plain = refused_if_steps link s log _ [] (λ b c r o n. refl) g set runs (not (is_in g.running v)) _ (happening.crashes (enclaves link) v) (λ h. crashes_steps link s log _ (λ b c r o n. refl) g set runs k v)
   acts_steps (event.Save v) plain = tells_steps link s log _ (λ b c r o n. refl) g set runs k v Save tt
   acts_steps (event.Roll v j) plain = rolls_steps link s log v j g set runs k
   acts_steps (event.Join v x) plain = tells_steps link s log _ (λ b c r o n. refl) g set runs k v (Join x) tt
@@ -291,7 +291,7 @@ module _ (link : Link) (s : Setup) (log : Path) (g : World) (set : g.setup ≡ S
   acts_steps (event.Remove v x) plain = tells_steps link s log _ (λ b c r o n. refl) g set runs k v (Remove x) tt
   acts_steps (event.Ask v c n request) plain = tells_steps link s log _ (λ b c r o n. refl) g set runs k v (Client c n request) tt
   acts_steps (event.Want c w) plain = wants_steps link s log _ (λ b c r o n. refl) g set runs k c (wanted (unwrap_or (core_of g.cores c) new_core) w)
-  acts_steps (event.Say c v) plain = says_steps link s log _ (λ b c r o n. refl) g set runs k c v (happening.said_by (enclaves link) (core_of g.cores c))
+  acts_steps (event.Say c v) plain = says_steps link s log _ (λ b c r o n. refl) g set runs k c v (happening.said_if_any (enclaves link) (core_of g.cores c))
   acts_steps (event.Hear c j) plain = hears_steps link s log _ (λ b c r o n. refl) g set runs k c j (numbered g.answers j)
   acts_steps (event.Margin v m) plain = tells_steps link s log _ (λ b c r o n. refl) g set runs k v (Margin m) tt
   acts_steps (event.Again c) plain = passing link s log _ (λ b c r o n. refl) g set runs k

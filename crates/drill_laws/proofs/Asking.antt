@@ -24,7 +24,7 @@ use Rattle.replica_model.specs.Raise.{raise_and_send, to_every_peer}
 use Rattle.replica_model.specs.Clients.{asked, on_request, client_request, open_entries}
 use Rattle.replica_model.specs.Ticks.{sent_again, all_again, leader_tick}
 use Rattle.replica_model.specs.Tables.{part_message}
-use Rattle.replica_model.specs.Send.{entries_from, told, ended}
+use Rattle.replica_model.specs.Send.{entries_from, with_sent, ended}
 use Rattle.replica_model.specs.Step.{step, with_end}
 use Rattle.drill_laws.proofs.Setting.{all, progress, leading, leader, four_of, whole, offer}
 use Rattle.drill_laws.proofs.Follows.{Did, did}
@@ -94,7 +94,7 @@ module _ (link : Link) (p : Path) (no_members : IsPlain p) (client : ClientId) (
   pub asks : (bytes : List ℕ) → request_of bytes ≡ Ok request → length p < TOP
       → Did (step link calm (Client client number bytes)) (leads link ask_round (led_all false)) (four_of (offer (whole link p) (ask ∷ []) (length p) (length p))) []
   asks bytes reads low =
-      did _ _ _ _ _ (λ i. told (with_end link (pushes i)))
+      did _ _ _ _ _ (λ i. with_sent (with_end link (pushes i)))
       (ends_sending link ask_round (led_all false) (length p + 1) (ask ∷ []) (whole link p) entries_is next_is point_is (omega (arith, ask_long)))
     where
       free : (length p == TOP) ≡ false
@@ -151,8 +151,8 @@ module _ (link : Link) (round : Round) where
 
   pub ticks : Did (step link s Tick) s (four_of (offer (whole link q) [] (length q) (length q))) []
   ticks =
-      did _ _ _ _ _ (λ i. told (with_end link (ticks_to i)))
-      (did _ _ _ _ _ (λ i. told (sending i))
+      did _ _ _ _ _ (λ i. with_sent (with_end link (ticks_to i)))
+      (did _ _ _ _ _ (λ i. with_sent (sending i))
       (record { state = λ i. leader q (base_is i) (length q) (length q) [] l; sent = refl; answers = refl; saved = refl; halt = refl }))
     where
       base_is : max (length q - KEPT_BELOW) (length q - KEPT_BELOW) ≡ length q - KEPT_BELOW

@@ -58,8 +58,8 @@ module _ (link : Link) (p : Playing Message Enclaves) (P : Playing Message Encla
           goes_on ev (Replied r c.batch) (after_call link w_at r input e c is)
           (acts_is link p ev a.runs
           ∙ tells
-          ∙ (λ i. happening.unless (enclaves link) (not (is_in (a.runs.five_run i) r)) (NotRunning r) (noted link p ev) (happening.calls (enclaves link) r input))
-          ∙ (λ i. happening.unless (enclaves link) (not (runs i)) (NotRunning r) (noted link p ev) (happening.calls (enclaves link) r input))
+          ∙ (λ i. happening.refused_if (enclaves link) (not (is_in (a.runs.five_run i) r)) (NotRunning r) (noted link p ev) (happening.calls (enclaves link) r input))
+          ∙ (λ i. happening.refused_if (enclaves link) (not (runs i)) (NotRunning r) (noted link p ev) (happening.calls (enclaves link) r input))
           ∙ call_is link w_at r input e c is here)
           (has_room ev none) (call_at link w_at r input e c is holds d) room next
 
@@ -86,10 +86,10 @@ module _ (link : Link) (p : Playing Message Enclaves) (P : Playing Message Encla
         (acts_is link p ev a.runs
         ∙ (λ i. happening.hears (enclaves link) c number (numbered (a.answers_are i) number) w)
         ∙ (λ i. happening.hears (enclaves link) c number (answer_is i) w)
-        ∙ (λ i. happening.unless (enclaves link) (not (own i)) (NotYours number) w (happening.hears_with (enclaves link) c x (core_of w.cores c)))
+        ∙ (λ i. happening.refused_if (enclaves link) (not (own i)) (NotYours number) w (happening.hears_with (enclaves link) c x (core_of w.cores c)))
         ∙ (λ i. happening.hears_with (enclaves link) c x (core_of (a.cores_are i) c) w)
         ∙ (λ i. happening.hears_with (enclaves link) c x (core_is i) w)
-        ∙ (λ i. happening.told (enclaves link) c core x (heard_is i) w))
+        ∙ (λ i. happening.hears_report (enclaves link) c core x (heard_is i) w))
         (has_room ev refl) (noted_at ev a a.mail (λ i. put_core (a.cores_are i) c after)) room next
 
 -- the first message that waits is delivered
@@ -125,9 +125,9 @@ module _ (link : Link) (p : Playing Message Enclaves) (P : Playing Message Encla
   delivered =
       acts_is link p delivery a.runs
       ∙ (λ i. happening.delivers (enclaves link) k (first_is' i) there)
-      ∙ (λ i. happening.unless (enclaves link) (is_in (a.runs.none_lost i) k) (Lost k) there (λ x. happening.running (enclaves link) m.to x (happening.hands (enclaves link) k m)))
-      ∙ (λ i. happening.unless (enclaves link) (not (is_in (a.runs.five_run i) m.to)) (NotRunning m.to) there (happening.hands (enclaves link) k m))
-      ∙ (λ i. happening.unless (enclaves link) (not (runs i)) (NotRunning m.to) there (happening.hands (enclaves link) k m))
+      ∙ (λ i. happening.refused_if (enclaves link) (is_in (a.runs.none_lost i) k) (Lost k) there (λ x. happening.running (enclaves link) m.to x (happening.hands (enclaves link) k m)))
+      ∙ (λ i. happening.refused_if (enclaves link) (not (is_in (a.runs.five_run i) m.to)) (NotRunning m.to) there (happening.hands (enclaves link) k m))
+      ∙ (λ i. happening.refused_if (enclaves link) (not (runs i)) (NotRunning m.to) there (happening.hands (enclaves link) k m))
       ∙ call_is link handed_at m.to (Peer m.from m.to m.message) e c is here
 
   pub delivery_goes : (n : ℕ)

@@ -106,8 +106,8 @@ module _ (link : Link) (p : Path) (no_members : IsPlain p) (pl : Playing Message
       exchange_plays = (
         tt,
         call_goes link pl (λ u. Plays link u (event.Settle 24 ∷ event.Hear c a ∷ rest) Q) calm_at (omega (arith, few_events)) (event.Say c 1) refl 1 refl (Client c number (canonical_request request))
-            ((λ i. happening.says (enclaves link) c 1 (happening.said_by (enclaves link) (core_of (calm_at.cores_are i) c)) (noted link pl (event.Say c 1)))
-            ∙ (λ i. happening.says (enclaves link) c 1 (happening.said_by (enclaves link) (core_is i)) (noted link pl (event.Say c 1)))
+            ((λ i. happening.says (enclaves link) c 1 (happening.said_if_any (enclaves link) (core_of (calm_at.cores_are i) c)) (noted link pl (event.Say c 1)))
+            ∙ (λ i. happening.says (enclaves link) c 1 (happening.said_if_any (enclaves link) (core_is i)) (noted link pl (event.Say c 1)))
             ∙ (λ i. happening.says (enclaves link) c 1 (said_is i) (noted link pl (event.Say c 1))))
             (enclave_of 1 (calm link p no_members c number request)) refl tt (asks link p no_members c number request (canonical_request request) reads low) refl
             (omega (arith, few_messages), omega (arith, few_answers, ap (λ (xs : List Answered). length xs) (append-nil answers)), omega (arith, few_cores))

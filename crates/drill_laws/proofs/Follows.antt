@@ -13,7 +13,7 @@ use Rattle.replica_model.specs.Message.{Message}
 use Rattle.replica_model.specs.Replica.{Replica}
 use Rattle.replica_model.specs.Call.{Call, Peer}
 use Rattle.replica_model.specs.Graft.{Offer, hash_at, points_from, differing, first_difference, Difference, append_heard, conflict_or_graft, refusal_hint, answered, following, accepts, grafted}
-use Rattle.replica_model.specs.Send.{told}
+use Rattle.replica_model.specs.Send.{with_sent}
 use Rattle.replica_model.specs.Step.{step, with_end}
 use Rattle.drill_laws.proofs.Numbers.{hash_same}
 use Rattle.drill_laws.proofs.Setting.{follower, whole, offer, acceptance, at, max_at, min_whole, min_at, below_whole}
@@ -105,7 +105,7 @@ module _ (link : Link) (me known : ℕ) where
 
     pub grafts : Did (step link s (Peer 1 (offer (whole link r) es x y))) (follower me 1 q promised committed) ((1, acceptance (whole link q) promised) ∷ []) []
     grafts =
-        did _ (told (with_end link (accepts link (grafted (following s 1) None o) o))) _ _ _ (λ i. told (with_end link (heard i)))
+        did _ (with_sent (with_end link (accepts link (grafted (following s 1) None o) o))) _ _ _ (λ i. with_sent (with_end link (heard i)))
         (record {
           state = λ i. record (follower me 1 (path_is i) (promise_is i) (commit_is i)) { base = base_is i };
           sent = λ i. (1, acceptance (record { index = ends i; hash = chain link (front_is i) }) (told_is i)) ∷ [];

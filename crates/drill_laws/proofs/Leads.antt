@@ -26,7 +26,7 @@ use Rattle.replica_model.specs.Call.{Call, Peer, moment, still}
 use Rattle.replica_model.specs.Raise.{commit_to, outcome_of, accepted_mark, promised_mark, may_promise, may_commit, promise_index, commit_index, raise, to_every_peer}
 use Rattle.replica_model.specs.Heard.{to_peer, accepted_upto, after_raise, accepted_by, accepted_heard}
 use Rattle.replica_model.specs.Graft.{is_hash}
-use Rattle.replica_model.specs.Send.{entries_from, sent_on, send_append, send_appends, appended_to, stepped_down, base_moved, concluded, ended, told}
+use Rattle.replica_model.specs.Send.{entries_from, sent_on, send_append, send_appends, appended_to, stepped_down, base_moved, concluded, ended, with_sent}
 use Rattle.replica_model.specs.Step.{step, with_end}
 use Rattle.replica_model.proofs.Paths.{conf-push}
 use Rattle.drill_laws.proofs.Numbers.{hash_same}
@@ -274,7 +274,7 @@ module _ (link : Link) (round : Round) where
     replied = cond led.committed [] (cond (commits_by led) (outcomes q round.ask) [])
 
     abbrev Ends : Call → List (ℕ × Message) → Type 0
-    Ends c sent = Did (told (with_end link c)) (leads to) sent replied
+    Ends c sent = Did (with_sent (with_end link c)) (leads to) sent replied
 
     -- where it sends each follower what follows from x on
     module _ (x : ℕ) where
@@ -325,7 +325,7 @@ module _ (link : Link) (round : Round) where
       pub ends_sending : (es : Path) (pt : Point) → entries_from q x ≡ es → x + length (entries_from q x) ≡ next → point link q (x - 1) ≡ pt → length q < x + 1
           → Ends (done (2 ∷ 3 ∷ 4 ∷ 5 ∷ [])) (four_of (offer pt es (A to.promised) (A to.committed)))
       ends_sending es pt entries_is next_is point_is high =
-          did _ _ _ _ _ (λ i. told (sending i))
+          did _ _ _ _ _ (λ i. with_sent (sending i))
           (record { state = λ i. leader q (base_is led.committed (commits_by led) i) (A to.promised) (A to.committed) (T to.committed) (known led); sent = refl; answers = outcomes_are; saved = refl; halt = refl })
         where
           low : nat_lt (A led.committed - KEPT_BELOW) x ≡ true
@@ -340,7 +340,7 @@ module _ (link : Link) (round : Round) where
 
     ended_by : (b : Bool) → Ends (cond b (done next (2 ∷ 3 ∷ 4 ∷ 5 ∷ [])) (done next [])) (cond b (four_of more) [])
     ended_by false =
-        did _ _ _ _ _ (λ i. told (record (done next []) { state = base_moved (stays q round.plain (A led.committed - KEPT_BELOW) (A to.promised) (A to.committed) (T to.committed) (known led) i) }))
+        did _ _ _ _ _ (λ i. with_sent (record (done next []) { state = base_moved (stays q round.plain (A led.committed - KEPT_BELOW) (A to.promised) (A to.committed) (T to.committed) (known led) i) }))
         (record { state = λ i. leader q (base_is led.committed (commits_by led) i) (A to.promised) (A to.committed) (T to.committed) (known led); sent = refl; answers = outcomes_are next; saved = refl; halt = refl })
     ended_by true = ends_sending next [] (whole link q) nothing_left after_all whole_is (omega arith)
 
@@ -392,4 +392,4 @@ module _ (link : Link) (round : Round) where
         ∙ after_is then (leads led) (id_of v) refl refl refl (each (λ w. (progress_of (known (taken w x led)) (id_of w)).next ≡ next) refl refl refl refl v)
 
     pub hears : Did (step link (leads led) (Peer (id_of v) (acceptance (whole link q) (A x)))) (leads (rises then)) (cond (rose then) (four_of (more then)) []) (cond led.committed [] (cond (commits_by then) (outcomes q round.ask) []))
-    hears = did _ _ _ _ _ (λ i. told (with_end link (heard i))) (ended_by then (rose then))
+    hears = did _ _ _ _ _ (λ i. with_sent (with_end link (heard i))) (ended_by then (rose then))

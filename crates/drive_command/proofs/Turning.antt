@@ -10,7 +10,7 @@ use Rattle.group_model.specs.Group.{Answered, core_of}
 use Rattle.trace_model.specs.Driven.{answer_in, flight_of, hears_answer, sees, drives_settled, seen_in, wakes_target}
 use Rattle.trace_model.specs.Driver.{Report, Seen, Turn}
 use Rattle.group_world.specs.Cores as cores
-use Rattle.group_world.specs.Newest.{newest_after, told}
+use Rattle.group_world.specs.Newest.{newest_after, without_giver}
 use Rattle.drive_command.specs.Course.{Drives, field}
 use Rattle.drive_command.specs.Standing.{Stands}
 use Rattle.drive_command.specs.Turns.{hears_shown, newest_shown, sees_heard, shown}
@@ -50,7 +50,7 @@ idle_same p d c found is st = ap is_none (is ∙ flight_same p d c st) ∙ none_
 abbrev pub shows : ℕ × Answer → ℕ × Seen
 shows x = (x.0, seen_in x.1)
 
-shown_told : (o : Option (ℕ × Answered)) → option_map shows (option_map told o) ≡ option_map shown o
+shown_told : (o : Option (ℕ × Answered)) → option_map shows (option_map without_giver o) ≡ option_map shown o
 shown_told None = refl
 shown_told (Some x) = refl
 

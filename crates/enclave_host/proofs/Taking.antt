@@ -16,7 +16,7 @@ use Rattle.attested_link.specs.Frames.{link_frame, taken_by}
 use Rattle.attested_link.specs.Frames as link
 use Rattle.replica_model.specs.Linked.{sha_link}
 use Rattle.replica_model.specs.Replica.{Named, Role, nothing_named}
-use Rattle.replica_model.specs.Call as told
+use Rattle.replica_model.specs.Call as model_call
 use Rattle.replica_model.specs.Step.{step}
 use Rattle.replica_core.specs.Inputs.{IsNamed}
 use Rattle.group_msgs.specs.Peer.{peer_of}
@@ -106,13 +106,13 @@ read-as : (from : ℕ) (bytes : List ℕ) (msg : PeerMsg) → peer_of bytes ≡ 
 read-as from bytes msg is = ap (λ r. session.read_message wording untagged sha_link (λ point. nothing_named) from (message_if r)) is
 
 step-is : (e : Enclave) (names : Named) (from : ℕ) (msg : PeerMsg) → is_in e.links from ≡ true
-    → heard names e (Ok (from, msg)) ≡ calls e (step sha_link e.replica (told.Peer from (record { msg = msg; names = names })))
+    → heard names e (Ok (from, msg)) ≡ calls e (step sha_link e.replica (model_call.Peer from (record { msg = msg; names = names })))
 step-is e names from msg linked =
     ap (λ b. accepts b (is_in e.links from) sha_link e from e.replica.me (record { msg = msg; names = names })) (eq-eqb e.replica.me e.replica.me refl)
     ∙ ap (λ b. accepts true b sha_link e from e.replica.me (record { msg = msg; names = names })) linked
 
 pub taken-as : (e : Enclave) (names : Named) (from : ℕ) (bytes : List ℕ) (msg : PeerMsg) (P : Called → Type 0) → is_in e.links from ≡ true → peer_of bytes ≡ Ok msg
-    → P (calls e (step sha_link e.replica (told.Peer from (record { msg = msg; names = names })))) → P (heard names e (read_from from bytes))
+    → P (calls e (step sha_link e.replica (model_call.Peer from (record { msg = msg; names = names })))) → P (heard names e (read_from from bytes))
 taken-as e names from bytes msg P linked is p = subst P (sym (ap (heard names e) (read-as from bytes msg is) ∙ step-is e names from msg linked)) p
 
 pub named-as : (names : Named) (role : Role) (from : ℕ) (bytes : List ℕ) (msg : PeerMsg) → peer_of bytes ≡ Ok msg → IsNamedIn names role (read_from from bytes) → IsNamed role msg names

@@ -8,7 +8,7 @@ ghost use Rattle.group_msgs.specs.Batches.{IsBatchInRange};
 ghost use Rattle.replica_model.specs.Linked.{sha_link};
 ghost use Rattle.replica_model.specs.Replica.{Named};
 ghost use Rattle.replica_model.specs.Replica as model;
-ghost use Rattle.replica_model.specs.Call as told;
+ghost use Rattle.replica_model.specs.Call as model_call;
 ghost use Rattle.replica_model.specs.Call.{empty_batch};
 ghost use Rattle.replica_model.specs.Step.{step};
 ghost use Rattle.replica_core.specs.Inputs.{IsInput, IsInputInRange};
@@ -139,7 +139,7 @@ impl Running {
         requires range { IsInputInRange input.now }
         requires empty { batch.old ≡ empty_batch }
         ensures sound { OnOk result (IsSound self.new) }
-        ensures model { (e : Enclave) (i : told.Input) → RunsFor self.old e → IsInput e.replica input.now i
+        ensures model { (e : Enclave) (i : model_call.Input) → RunsFor self.old e → IsInput e.replica input.now i
             → OnOk result (Becomes self.new batch.new (calls e (step sha_link e.replica i))) }
         ensures in_range { OnOk result (IsBatchInRange batch.new) }
         ensures holds { OnOk result (KeepsLog self.old self.new) }

@@ -55,9 +55,9 @@ module _ (link : Link) (E K : World → Type 0) (knows : (w : World) → K w →
   Leaves h = LeavesIt K h
 
   module _ (g : World) (k : K g) where
-    unless_keeps : (b : Bool) (refusal : GroupRefusal) (next : World → Happening Message Enclaves) → (b ≡ false → Leaves (next g)) → Leaves (happening.unless (enclaves link) b refusal g next)
-    unless_keeps true refusal next goes = k
-    unless_keeps false refusal next goes = goes refl
+    refused_if_keeps : (b : Bool) (refusal : GroupRefusal) (next : World → Happening Message Enclaves) → (b ≡ false → Leaves (next g)) → Leaves (happening.refused_if (enclaves link) b refusal g next)
+    refused_if_keeps true refusal next goes = k
+    refused_if_keeps false refusal next goes = goes refl
 
     replied_keeps : (v : ℕ) (h : Handing g v) (o : Option Enclave) → value_at g.field.running v ≡ o → Leaves (happening.replied (enclaves link) v g (call_enclave link g.field v (handed h) o))
     replied_keeps v h None is = tt
@@ -67,7 +67,7 @@ module _ (link : Link) (E K : World → Type 0) (knows : (w : World) → K w →
     calls_keeps v h = replied_keeps v h (value_at g.field.running v) refl
 
     tells_keeps : (v : ℕ) (h : Handing g v) → Leaves (happening.tells (enclaves link) v (handed h) g)
-    tells_keeps v h = unless_keeps (not (is_in g.running v)) _ (happening.calls (enclaves link) v (handed h)) (λ runs. calls_keeps v h)
+    tells_keeps v h = refused_if_keeps (not (is_in g.running v)) _ (happening.calls (enclaves link) v (handed h)) (λ runs. calls_keeps v h)
 
     -- a roll, by the state that it names
     put_back : (v j : ℕ) (e : Enclave) → value_at g.field.running v ≡ Some e → (o : Option Replica) → slice_get e.saved j ≡ o → Leaves (happening.rolled (enclaves link) v g (replies g.field v e.replica (Roll j) (rolls_to e j o)))
@@ -81,11 +81,11 @@ module _ (link : Link) (E K : World → Type 0) (knows : (w : World) → K w →
     rolled_keeps v j (Some e) is = put_back v j e is (slice_get e.saved j) refl
 
     rolls_keeps : (v j : ℕ) → Leaves (happening.rolls (enclaves link) v j g)
-    rolls_keeps v j = unless_keeps (not (nat_le j (saves_of g.saves v))) _ (λ g. happening.rolled (enclaves link) v g ((enclaves link).call g.field v (Roll j))) (λ b. rolled_keeps v j (value_at g.field.running v) refl)
+    rolls_keeps v j = refused_if_keeps (not (nat_le j (saves_of g.saves v))) _ (λ g. happening.rolled (enclaves link) v g ((enclaves link).call g.field v (Roll j))) (λ b. rolled_keeps v j (value_at g.field.running v) refl)
 
     loses_keeps : (j : ℕ) (o : Option (Sent Message)) → Leaves (happening.loses (enclaves link) j o g)
     loses_keeps j None = k
-    loses_keeps j (Some m) = unless_keeps (is_in g.lost j) _ (λ g. Happened happening.Passed (record g { lost = j ∷ g.lost; waiting = but j g.waiting })) (λ b. s.sorted g (j ∷ g.lost) (but j g.waiting) k)
+    loses_keeps j (Some m) = refused_if_keeps (is_in g.lost j) _ (λ g. Happened happening.Passed (record g { lost = j ∷ g.lost; waiting = but j g.waiting })) (λ b. s.sorted g (j ∷ g.lost) (but j g.waiting) k)
 
     wants_keeps : (client : ClientId) (want : Want) (r : Result Core WantFault) → wanted (unwrap_or (core_of g.cores client) new_core) want ≡ r → Leaves (happening.wants (enclaves link) client r g)
     wants_keeps client want (Err fault) is = k
@@ -95,7 +95,7 @@ module _ (link : Link) (E K : World → Type 0) (knows : (w : World) → K w →
     says_keeps client v core has None is = k
     says_keeps client v core has (Some (number, request)) is = tells_keeps v (Said client core number request has is)
 
-    says_by_keeps : (client : ClientId) (v : ℕ) (o : Option Core) → core_of g.cores client ≡ o → Leaves (happening.says (enclaves link) client v (happening.said_by (enclaves link) o) g)
+    says_by_keeps : (client : ClientId) (v : ℕ) (o : Option Core) → core_of g.cores client ≡ o → Leaves (happening.says (enclaves link) client v (happening.said_if_any (enclaves link) o) g)
     says_by_keeps client v None has = k
     says_by_keeps client v (Some core) has = says_keeps client v core has (said core) refl
 
@@ -107,7 +107,7 @@ module _ (link : Link) (E K : World → Type 0) (knows : (w : World) → K w →
     hears_keeps client j None is = k
     hears_keeps client j (Some a) is = by_client _ (is_client a.client client) refl
       where
-        by_client : (refusal : GroupRefusal) (b : Bool) → is_client a.client client ≡ b → Leaves (happening.unless (enclaves link) (not b) refusal g (happening.hears_with (enclaves link) client a (core_of g.cores client)))
+        by_client : (refusal : GroupRefusal) (b : Bool) → is_client a.client client ≡ b → Leaves (happening.refused_if (enclaves link) (not b) refusal g (happening.hears_with (enclaves link) client a (core_of g.cores client)))
         by_client refusal true its = hears_with_keeps client j a is its (core_of g.cores client) refl
         by_client refusal false its = k
 
@@ -129,22 +129,22 @@ module _ (link : Link) (E K : World → Type 0) (knows : (w : World) → K w →
 
   delivers_keeps : (g : World) → K g → (j : ℕ) (o : Option (Sent Message)) → numbered g.messages j ≡ o → Leaves (happening.delivers (enclaves link) j o g)
   delivers_keeps g k j None is = k
-  delivers_keeps g k j (Some m) is = unless_keeps g k (is_in g.lost j) _ (λ g. happening.running (enclaves link) m.to g (happening.hands (enclaves link) j m))
-      (λ b. unless_keeps g k (not (is_in g.running m.to)) _ (happening.hands (enclaves link) j m)
+  delivers_keeps g k j (Some m) is = refused_if_keeps g k (is_in g.lost j) _ (λ g. happening.running (enclaves link) m.to g (happening.hands (enclaves link) j m))
+      (λ b. refused_if_keeps g k (not (is_in g.running m.to)) _ (happening.hands (enclaves link) j m)
       (λ b. calls_keeps (record g { waiting = but j g.waiting }) (s.sorted g g.lost (but j g.waiting) k) m.to (Delivered j m is refl)))
 
   -- an event of a group that has begun
   acts_keeps : (g : World) (setup : Setup) (e : Event) (before : List Event) → g.setup ≡ Some setup → g.past ≡ e ∷ before → K g → Leaves (happening.acts (enclaves link) e g)
   acts_keeps g setup (event.Begin margin limit voters) before set past k = k
   acts_keeps g setup (event.Start zero) before set past k = k
-  acts_keeps g setup (event.Start (suc x)) before set past k = unless_keeps g k (is_in g.started (suc x)) _ (happening.starts (enclaves link) (suc x)) (λ new. starts_keeps g setup x set new k)
+  acts_keeps g setup (event.Start (suc x)) before set past k = refused_if_keeps g k (is_in g.started (suc x)) _ (happening.starts (enclaves link) (suc x)) (λ new. starts_keeps g setup x set new k)
   acts_keeps g setup (event.Tick v) before set past k = tells_keeps g k v Ticked
   acts_keeps g setup (event.Deliver j) before set past k = delivers_keeps g k j (numbered g.messages j) refl
   acts_keeps g setup (event.Lose j) before set past k = loses_keeps g k j (numbered g.messages j)
   acts_keeps g setup (event.Settle n) before set past k = k
-  acts_keeps g setup (event.Crash v) before set past k = unless_keeps g k (not (is_in g.running v)) _ (happening.crashes (enclaves link) v) (λ b. s.stopped g v k)
+  acts_keeps g setup (event.Crash v) before set past k = refused_if_keeps g k (not (is_in g.running v)) _ (happening.crashes (enclaves link) v) (λ b. s.stopped g v k)
   acts_keeps g setup (event.Save v) before set past k = tells_keeps g k v Saved
-  acts_keeps g setup (event.Roll v j) before set past k = unless_keeps g k (not (is_in g.running v)) _ (happening.rolls (enclaves link) v j) (λ b. rolls_keeps g k v j)
+  acts_keeps g setup (event.Roll v j) before set past k = refused_if_keeps g k (not (is_in g.running v)) _ (happening.rolls (enclaves link) v j) (λ b. rolls_keeps g k v j)
   acts_keeps g setup (event.Join v x) before set past k = tells_keeps g k v (Joins x)
   acts_keeps g setup (event.Admit v x) before set past k = tells_keeps g k v (Admits x)
   acts_keeps g setup (event.Remove v x) before set past k = tells_keeps g k v (Removes x)

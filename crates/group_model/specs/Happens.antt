@@ -34,12 +34,12 @@ module _ {M F : Type 0} (field : Field M F) where
   refused refusal g = Happened (Refused refusal) g
 
   -- what follows where a test passes; else the refusal
-  abbrev pub unless : Bool → GroupRefusal → Group M F → (Group M F → Happening M F) → Happening M F
-  unless true refusal g next = refused refusal g
-  unless false refusal g next = next g
+  abbrev pub refused_if : Bool → GroupRefusal → Group M F → (Group M F → Happening M F) → Happening M F
+  refused_if true refusal g next = refused refusal g
+  refused_if false refusal g next = next g
 
   abbrev pub running : ℕ → Group M F → (Group M F → Happening M F) → Happening M F
-  running r g next = unless (not (is_in g.running r)) (NotRunning r) g next
+  running r g next = refused_if (not (is_in g.running r)) (NotRunning r) g next
 
   abbrev pub replied : ℕ → Group M F → Reply M F → Happening M F
   replied r g (Answers batch sent f) = Happened (Replied r batch) (keeps g r batch sent f)
@@ -85,19 +85,19 @@ module _ {M F : Type 0} (field : Field M F) where
   -- an id starts once. 0 stands for no replica, so it starts nothing
   abbrev pub starts_new : ℕ → Group M F → Happening M F
   starts_new zero g = Happened Passed g
-  starts_new (suc k) g = unless (is_in g.started (suc k)) (AlreadyStarted (suc k)) g (starts (suc k))
+  starts_new (suc k) g = refused_if (is_in g.started (suc k)) (AlreadyStarted (suc k)) g (starts (suc k))
 
   abbrev pub hands : ℕ → Sent M → Group M F → Happening M F
   hands k m g = calls m.to (Peer m.from m.to m.message) (record g { waiting = but k g.waiting })
 
   abbrev pub delivers : ℕ → Option (Sent M) → Group M F → Happening M F
   delivers k None g = refused (NoMessage k) g
-  delivers k (Some m) g = unless (is_in g.lost k) (Lost k) g (λ g. running m.to g (hands k m))
+  delivers k (Some m) g = refused_if (is_in g.lost k) (Lost k) g (λ g. running m.to g (hands k m))
 
   abbrev pub loses : ℕ → Option (Sent M) → Group M F → Happening M F
   loses k None g = refused (NoMessage k) g
   loses k (Some m) g =
-      unless (is_in g.lost k) (Lost k) g (λ g. Happened Passed (record g { lost = k ∷ g.lost; waiting = but k g.waiting }))
+      refused_if (is_in g.lost k) (Lost k) g (λ g. Happened Passed (record g { lost = k ∷ g.lost; waiting = but k g.waiting }))
 
   abbrev pub crashes : ℕ → Group M F → Happening M F
   crashes r g = Happened Passed (record g { running = but r g.running; field = field.stop g.field r })
@@ -112,7 +112,7 @@ module _ {M F : Type 0} (field : Field M F) where
   rolled r g Nothing = Unanswered
 
   abbrev pub rolls : ℕ → ℕ → Group M F → Happening M F
-  rolls r k g = unless (not (nat_le k (saves_of g.saves r))) (NoSuchState k) g (λ g. rolled r g (field.call g.field r (Roll k)))
+  rolls r k g = refused_if (not (nat_le k (saves_of g.saves r))) (NoSuchState k) g (λ g. rolled r g (field.call g.field r (Roll k)))
 
   abbrev pub refusal_of : WantFault → GroupRefusal
   refusal_of want.ClientBusy = ClientBusy
@@ -135,22 +135,22 @@ module _ {M F : Type 0} (field : Field M F) where
   abbrev pub hearing : ClientId → Core → Answered → Option Report → Hearing
   hearing c core a report = record { client = c; flight = core.flight; answered = a; report = report }
 
-  abbrev pub told : ClientId → Core → Answered → Core × Option Report → Group M F → Happening M F
-  told c core a (after, report) g =
+  abbrev pub hears_report : ClientId → Core → Answered → Core × Option Report → Group M F → Happening M F
+  hears_report c core a (after, report) g =
       Happened (came_of c report) (record g { cores = put_core g.cores c after; hearings = hearing c core a report ∷ g.hearings })
 
   -- a client without a core hears nothing
   abbrev pub hears_with : ClientId → Answered → Option Core → Group M F → Happening M F
   hears_with c a None g = Happened Passed g
-  hears_with c a (Some core) g = told c core a (heard core a.number a.answer) g
+  hears_with c a (Some core) g = hears_report c core a (heard core a.number a.answer) g
 
   abbrev pub hears : ClientId → ℕ → Option Answered → Group M F → Happening M F
   hears c k None g = refused (NoAnswer k) g
-  hears c k (Some a) g = unless (not (is_client a.client c)) (NotYours k) g (hears_with c a (core_of g.cores c))
+  hears c k (Some a) g = refused_if (not (is_client a.client c)) (NotYours k) g (hears_with c a (core_of g.cores c))
 
-  abbrev pub said_by : Option Core → Option (ℕ × List ℕ)
-  said_by None = None
-  said_by (Some core) = said core
+  abbrev pub said_if_any : Option Core → Option (ℕ × List ℕ)
+  said_if_any None = None
+  said_if_any (Some core) = said core
 
   -- an event of a group that has begun. A schedule has no second begin, and `settle` and `again` are no events
   abbrev pub acts : Event → Group M F → Happening M F
@@ -168,7 +168,7 @@ module _ {M F : Type 0} (field : Field M F) where
   acts (event.Remove r x) g = tells r (Remove x) g
   acts (event.Ask r c n request) g = tells r (Client c n request) g
   acts (event.Want c w) g = wants c (wanted (unwrap_or (core_of g.cores c) new_core) w) g
-  acts (event.Say c r) g = says c r (said_by (core_of g.cores c)) g
+  acts (event.Say c r) g = says c r (said_if_any (core_of g.cores c)) g
   acts (event.Hear c k) g = hears c k (numbered g.answers k) g
   acts (event.Margin r m) g = tells r (Margin m) g
   acts (event.Again c) g = Happened Passed g

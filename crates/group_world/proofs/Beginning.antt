@@ -12,7 +12,7 @@ use Rattle.group_model.specs.Enclave.{Connect, Learn}
 use Rattle.group_model.specs.Field.{Field}
 use Rattle.group_model.specs.Group.{Group, Setup, bears, core_of, saves_of}
 use Rattle.group_model.specs.Happens as happening
-use Rattle.group_model.specs.Happens.{Passed, Happening, Happened, Unanswered, acts, acts_first, acts_in, connected, starts_all, starts_new, unless}
+use Rattle.group_model.specs.Happens.{Passed, Happening, Happened, Unanswered, acts, acts_first, acts_in, connected, starts_all, starts_new, refused_if}
 use Rattle.trace_model.specs.Session.{Starts as StartsBy}
 use Rattle.enclave_host.specs.Fields.{Map}
 use Rattle.enclave_host.specs.Words.{wording}
@@ -131,7 +131,7 @@ enlists says w w' g id f world e = record {
 }
 
 new_is : {M F : Type 0} (field : Field M F) (id : ℕ) (g : Group M F) → id ≢ 0
-    → starts_new field id g ≡ unless field (is_in g.started id) (refusals.AlreadyStarted id) g (happening.starts field id)
+    → starts_new field id g ≡ refused_if field (is_in g.started id) (refusals.AlreadyStarted id) g (happening.starts field id)
 new_is field zero g some = absurd (some refl)
 new_is field (suc k) g some = refl
 
@@ -145,7 +145,7 @@ module _ (w : World) (map : Option Map) (id : ℕ) where
   used_does some used = λ m later g x sees what named. (
     g,
     what ∙ new_is (model_of m) id g some
-        ∙ ap (λ b. unless (model_of m) b (refusals.AlreadyStarted id) g (happening.starts (model_of m) id)) (sym (sees.world.started id) ∙ used),
+        ∙ ap (λ b. refused_if (model_of m) b (refusals.AlreadyStarted id) g (happening.starts (model_of m) id)) (sym (sees.world.started id) ∙ used),
     sees,
   )
 
@@ -162,7 +162,7 @@ module _ (w w' : World) (map map' : Option Map) (id : ℕ) (hello : List ℕ) (s
       → acts (model_of m) (event.Start id) g ≡ connected (model_of m) id w.running.items ((model_of m).start g.field (Learn id w.running.items)) (λ f. Happened Passed (enlisted g id f))
   starts_is m g world =
       new_is (model_of m) id g some
-      ∙ ap (λ b. unless (model_of m) b (refusals.AlreadyStarted id) g (happening.starts (model_of m) id)) (sym (world.started id) ∙ new)
+      ∙ ap (λ b. refused_if (model_of m) b (refusals.AlreadyStarted id) g (happening.starts (model_of m) id)) (sym (world.started id) ∙ new)
       ∙ ap (λ ids. connected (model_of m) id ids ((model_of m).start g.field (Learn id ids)) (λ f. Happened Passed (enlisted g id f))) (sym world.running)
 
   -- it was not started

@@ -159,12 +159,12 @@ module _ {M F : Type 0} (field : Field M F) (c : ClientId) (k : ℕ) (g : Group 
   unfolding HearsBy
   hears_kept kept a is true mine = (
     a,
-    ap (λ (b : Bool). happening.unless field (not b) (refusals.NotYours k) g (happening.hears_with field c a (core_of g.cores c))) (ap (λ (d : ClientId). is_client d c) (sym is.client) ∙ mine),
+    ap (λ (b : Bool). happening.refused_if field (not b) (refusals.NotYours k) g (happening.hears_with field c a (core_of g.cores c))) (ap (λ (d : ClientId). is_client d c) (sym is.client) ∙ mine),
     sym is.number,
     sym is.answer,
   )
   hears_kept kept a is false other =
-      ap (λ (b : Bool). happening.unless field (not b) (refusals.NotYours k) g (happening.hears_with field c a (core_of g.cores c))) (ap (λ (d : ClientId). is_client d c) (sym is.client) ∙ other)
+      ap (λ (b : Bool). happening.refused_if field (not b) (refusals.NotYours k) g (happening.hears_with field c a (core_of g.cores c))) (ap (λ (d : ClientId). is_client d c) (sym is.client) ∙ other)
 
   hears_by : (o : Option Kept) (p : Option Answered) → KeptAt o p → HearsBy p (heard_by k c o)
   unfolding KeptAt HearsBy
@@ -174,7 +174,7 @@ module _ {M F : Type 0} (field : Field M F) (c : ClientId) (k : ℕ) (g : Group 
   hears_by (Some kept) (Some a) at = hears_kept kept a at (is_client kept.client c) refl
 
   -- what the client then does
-  told_is : (core : Core) (a : Answered) (h : Core × Option Report) → happening.told field c core a h g
+  told_is : (core : Core) (a : Answered) (h : Core × Option Report) → happening.hears_report field c core a h g
       ≡ Happened (happening.came_of field c h.1) (record g { cores = put_core g.cores c h.0; hearings = happening.hearing field c core a h.1 ∷ g.hearings })
   told_is core a (after, report) = refl
 
@@ -216,7 +216,7 @@ module _ (w : World) (map : Option Map) (c : ClientId) (k : ℕ) where
         let hs = happening.hearing (model_of m) c core a next.1 ∷ g.hearings in
         let same : heard core a.number a.answer ≡ next = λ i. heard core (is_number i) (is_answer i) in (
           record g { cores = put_core g.cores c next.0; hearings = hs },
-          it ∙ acts_so ∙ ap (λ (o : Option Core). happening.hears_with (model_of m) c a o g) (sym (sees.world.cores c) ∙ some) ∙ ap (λ (x : Core × Option Report). happening.told (model_of m) c core a x g) same ∙ told_is (model_of m) c k g core a next
+          it ∙ acts_so ∙ ap (λ (o : Option Core). happening.hears_with (model_of m) c a o g) (sym (sees.world.cores c) ∙ some) ∙ ap (λ (x : Core × Option Report). happening.hears_report (model_of m) c core a x g) same ∙ told_is (model_of m) c k g core a next
               ∙ ap (λ (s : Came). Happened s (record g { cores = put_core g.cores c next.0; hearings = hs })) (ap (happening.came_of (model_of m) c) (sym says) ∙ reported_is (model_of m) c report),
           record { world = with_core (SaysMessage m) w h g c next.0 cs sees.world puts hs; field = sees.field },
         )
@@ -232,9 +232,9 @@ module _ (w : World) (map : Option Map) (c : ClientId) (k : ℕ) where
 
 -- ---- what is said
 
-said_by_is : {M F : Type 0} (field : Field M F) (o : Option Core) → happening.said_by field o ≡ option_and_then said o
-said_by_is field None = refl
-said_by_is field (Some core) = refl
+said_if_any_is : {M F : Type 0} (field : Field M F) (o : Option Core) → happening.said_if_any field o ≡ option_and_then said o
+said_if_any_is field None = refl
+said_if_any_is field (Some core) = refl
 
 says_some : {M F : Type 0} (field : Field M F) (c : ClientId) (r : ℕ) (request : ℕ × List ℕ) (g : Group M F) → happening.says field c r (Some request) g ≡ happening.tells field r (Client c request.0 request.1) g
 says_some field c r (number, bytes) g = refl
@@ -243,7 +243,7 @@ module _ (w : World) (map : Option Map) (c : ClientId) (r : ℕ) where
   says_is : (m : Meaning) (g : Group (MessageOf m) (StateOf m)) (o : Option (ℕ × List ℕ)) → IsWorld (SaysMessage m) w g → o ≡ option_and_then said (core_of w.clients c)
       → acts (model_of m) (event.Say c r) g ≡ happening.says (model_of m) c r o g
   says_is m g o world is =
-      ap (λ (p : Option (ℕ × List ℕ)). happening.says (model_of m) c r p g) (said_by_is (model_of m) (core_of g.cores c) ∙ ap (λ (p : Option Core). option_and_then said p) (sym (world.cores c)) ∙ sym is)
+      ap (λ (p : Option (ℕ × List ℕ)). happening.says (model_of m) c r p g) (said_if_any_is (model_of m) (core_of g.cores c) ∙ ap (λ (p : Option Core). option_and_then said p) (sym (world.cores c)) ∙ sym is)
 
   pub say_refused : None ≡ option_and_then said (core_of w.clients c) → Does (Acts (event.Say c r)) w w map map [] (Ok (came.Refused refusal.NothingInFlight))
   say_refused none = λ m later g x sees it named. (g, it ∙ says_is m g None sees.world none, sees)

@@ -200,7 +200,7 @@ module _ {M F : Type 0} (field : Field M F) (says : (from to : ℕ) → List ℕ
       let (l, at, gone) = some_and (numbered w.post k) (λ l. is_lost l.fate ≡ true) some in
       let (s, is, letter) = found_sent l at in
       ap (λ (o : Option (Sent M)). happening.delivers field k o g) is
-      ∙ ap (λ (b : Bool). happening.unless field b (refusals.Lost k) g (λ g. happening.running field s.to g (happening.hands field k s))) (sym (h.lost k) ∙ lost_is w.post k l true at gone)
+      ∙ ap (λ (b : Bool). happening.refused_if field b (refusals.Lost k) g (λ g. happening.running field s.to g (happening.hands field k s))) (sym (h.lost k) ∙ lost_is w.post k l true at gone)
       ∙ ap (λ (n : ℕ). Happened (Refused (refusals.Lost n)) g) (sym same)
   delivers_missing (refusal.NotRunning r) missing = absurd missing
   delivers_missing (refusal.AlreadyStarted r) missing = absurd missing
@@ -219,7 +219,7 @@ module _ {M F : Type 0} (field : Field M F) (says : (from to : ℕ) → List ℕ
       let (l, at, gone) = some_and (numbered w.post k) (λ l. is_lost l.fate ≡ true) some in
       let (s, is, letter) = found_sent l at in
       ap (λ (o : Option (Sent M)). happening.loses field k o g) is
-      ∙ ap (λ (b : Bool). happening.unless field b (refusals.Lost k) g (λ g. Happened Passed (record g { lost = k ∷ g.lost; waiting = but k g.waiting }))) (sym (h.lost k) ∙ lost_is w.post k l true at gone)
+      ∙ ap (λ (b : Bool). happening.refused_if field b (refusals.Lost k) g (λ g. Happened Passed (record g { lost = k ∷ g.lost; waiting = but k g.waiting }))) (sym (h.lost k) ∙ lost_is w.post k l true at gone)
       ∙ ap (λ (n : ℕ). Happened (Refused (refusals.Lost n)) g) (sym same)
   loses_missing (refusal.NotRunning r) missing = absurd missing
   loses_missing (refusal.AlreadyStarted r) missing = absurd missing
@@ -236,19 +236,19 @@ module _ {M F : Type 0} (field : Field M F) (says : (from to : ℕ) → List ℕ
       let (l, at, kept) = some_and (numbered w.post k) (λ l. is_lost l.fate ≡ false) there in
       let (s, is, letter) = found_sent l at in
       ap (λ (o : Option (Sent M)). happening.loses field k o g) is
-      ∙ ap (λ (b : Bool). happening.unless field b (refusals.Lost k) g (λ g. Happened Passed (record g { lost = k ∷ g.lost; waiting = but k g.waiting }))) (sym (h.lost k) ∙ there_kept w.post k there)
+      ∙ ap (λ (b : Bool). happening.refused_if field b (refusals.Lost k) g (λ g. Happened Passed (record g { lost = k ∷ g.lost; waiting = but k g.waiting }))) (sym (h.lost k) ∙ there_kept w.post k there)
 
   module _ (l : Letter) (at : numbered w.post k ≡ Some l) (kept : is_lost l.fate ≡ false) where
     -- up to whether its addressee runs
     runs_is : (b : Bool) → is_in w.running.items l.to ≡ b
-        → (s : Sent M) × (happening.delivers field k (numbered g.messages k) g ≡ happening.unless field (not b) (refusals.NotRunning l.to) g (happening.hands field k s)) × IsLetter says l s
+        → (s : Sent M) × (happening.delivers field k (numbered g.messages k) g ≡ happening.refused_if field (not b) (refusals.NotRunning l.to) g (happening.hands field k s)) × IsLetter says l s
     runs_is b running =
         let (s, is, letter) = found_sent l at in (
           s,
           ap (λ (o : Option (Sent M)). happening.delivers field k o g) is
-              ∙ ap (λ (b : Bool). happening.unless field b (refusals.Lost k) g (λ g. happening.running field s.to g (happening.hands field k s))) (sym (h.lost k) ∙ lost_is w.post k l false at kept)
-              ∙ (λ i. happening.unless field (not (is_in (sym h.running i) (sym letter.to i))) (refusals.NotRunning (sym letter.to i)) g (happening.hands field k s))
-              ∙ ap (λ (b : Bool). happening.unless field (not b) (refusals.NotRunning l.to) g (happening.hands field k s)) running,
+              ∙ ap (λ (b : Bool). happening.refused_if field b (refusals.Lost k) g (λ g. happening.running field s.to g (happening.hands field k s))) (sym (h.lost k) ∙ lost_is w.post k l false at kept)
+              ∙ (λ i. happening.refused_if field (not (is_in (sym h.running i) (sym letter.to i))) (refusals.NotRunning (sym letter.to i)) g (happening.hands field k s))
+              ∙ ap (λ (b : Bool). happening.refused_if field (not b) (refusals.NotRunning l.to) g (happening.hands field k s)) running,
           letter,
         )
 
@@ -305,7 +305,7 @@ deliver_told w w' post roster map map' given k to bytes result (runs, hands) the
         input,
         says,
         it ∙ same
-            ∙ ap (λ (b : Bool). happening.unless (model_of m) (not b) (refusals.NotRunning to) (record g { waiting = but k g.waiting }) (happening.calls (model_of m) to input))
+            ∙ ap (λ (b : Bool). happening.refused_if (model_of m) (not b) (refusals.NotRunning to) (record g { waiting = but k g.waiting }) (happening.calls (model_of m) to input))
             (sym (ap (λ (ids : List ℕ). is_in ids to) (sym sees.world.running) ∙ runs)),
       ),
     ))

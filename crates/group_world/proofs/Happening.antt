@@ -48,13 +48,13 @@ module _ (w : World) (map map' : Option Map) (r : ℕ) (bytes : List ℕ) where
   refused_does idle = λ m later g x sees what named.
       let (input, says, is) = what in
       let not_in = runs_same (SaysMessage m) w g r false sees.world idle in
-      (g, is ∙ ap (λ (b : Bool). happening.unless (model_of m) (not b) (refusals.NotRunning r) g (happening.calls (model_of m) r input)) not_in, sees)
+      (g, is ∙ ap (λ (b : Bool). happening.refused_if (model_of m) (not b) (refusals.NotRunning r) g (happening.calls (model_of m) r input)) not_in, sees)
 
   called_is : (m : Meaning) (g : Group (MessageOf m) (StateOf m)) (input : HostInput (MessageOf m)) → is_in w.running.items r ≡ true → IsWorld (SaysMessage m) w g
       → tells (model_of m) r input g ≡ happening.replied (model_of m) r g ((model_of m).call g.field r input)
   called_is m g input runs world =
       let is = runs_same (SaysMessage m) w g r true world runs in
-      ap (λ (b : Bool). happening.unless (model_of m) (not b) (refusals.NotRunning r) g (happening.calls (model_of m) r input)) is
+      ap (λ (b : Bool). happening.refused_if (model_of m) (not b) (refusals.NotRunning r) g (happening.calls (model_of m) r input)) is
 
   -- it answers by a batch, which is kept
   pub replied_does : (w' : World) (content : List ℕ) (batch : Batch) (frames : List (List ℕ)) → is_in w.running.items r ≡ true → WhereTold map map' (λ was now. Calling was now r bytes content × SameBut was now r)

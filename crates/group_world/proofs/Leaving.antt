@@ -80,9 +80,9 @@ module _ {M F : Type 0} (field : Field M F) (R : Bool → F → F → Type 0) (b
     passes : LeavesIn g (Happened Passed g)
     passes = silent Passed g refl refl refl refl refl refl (by.none g.field)
 
-    unless_leaves : (b : Bool) (refusal : GroupRefusal) (next : Group M F → Happening M F) → LeavesIn g (next g) → LeavesIn g (happening.unless field b refusal g next)
-    unless_leaves true refusal next x = refuses refusal
-    unless_leaves false refusal next x = x
+    refused_if_leaves : (b : Bool) (refusal : GroupRefusal) (next : Group M F → Happening M F) → LeavesIn g (next g) → LeavesIn g (happening.refused_if field b refusal g next)
+    refused_if_leaves true refusal next x = refuses refusal
+    refused_if_leaves false refusal next x = x
 
     abbrev Called : Reply M F → Type 0
     Called o = AnswersBy (λ batch f. R (is_some batch.halt) g.field f) o
@@ -96,7 +96,7 @@ module _ {M F : Type 0} (field : Field M F) (R : Bool → F → F → Type 0) (b
     calls_leaves r input = replied_leaves r (field.call g.field r input) (by.call g.field r input)
 
     tells_leaves : (r : ℕ) (input : HostInput M) → LeavesIn g (happening.tells field r input g)
-    tells_leaves r input = unless_leaves (not (is_in g.running r)) _ (happening.calls field r input) (calls_leaves r input)
+    tells_leaves r input = refused_if_leaves (not (is_in g.running r)) _ (happening.calls field r input) (calls_leaves r input)
 
     rolled_leaves : (r : ℕ) (o : Reply M F) → Called o → LeavesIn g (happening.rolled field r g o)
     rolled_leaves r (Answers batch sent f) x =
@@ -108,7 +108,7 @@ module _ {M F : Type 0} (field : Field M F) (R : Bool → F → F → Type 0) (b
     rolled_leaves r Nothing x = tt
 
     rolls_leaves : (r k : ℕ) → LeavesIn g (happening.rolls field r k g)
-    rolls_leaves r k = unless_leaves (not (nat_le k (saves_of g.saves r))) _ (λ g. happening.rolled field r g (field.call g.field r (Roll k))) (rolled_leaves r (field.call g.field r (Roll k)) (by.call g.field r (Roll k)))
+    rolls_leaves r k = refused_if_leaves (not (nat_le k (saves_of g.saves r))) _ (λ g. happening.rolled field r g (field.call g.field r (Roll k))) (rolled_leaves r (field.call g.field r (Roll k)) (by.call g.field r (Roll k)))
 
     -- links are made, one after another
     linked_next : (x r : ℕ) (rs : List ℕ) (f : F) (next : F → Happening M F) → R false g.field f → ((h : F) → R false g.field h → LeavesIn g (happening.connected field x rs h next)) → (o : Reply M F) → AnswersBy (λ batch h. R false f h) o
@@ -127,7 +127,7 @@ module _ {M F : Type 0} (field : Field M F) (R : Bool → F → F → Type 0) (b
 
     loses_leaves : (k : ℕ) (o : Option (Sent M)) → LeavesIn g (happening.loses field k o g)
     loses_leaves k None = refuses _
-    loses_leaves k (Some m) = unless_leaves (is_in g.lost k) _ (λ g. Happened Passed (record g { lost = k ∷ g.lost; waiting = but k g.waiting })) (silent Passed (record g { lost = k ∷ g.lost; waiting = but k g.waiting }) refl refl refl refl refl refl (by.none g.field))
+    loses_leaves k (Some m) = refused_if_leaves (is_in g.lost k) _ (λ g. Happened Passed (record g { lost = k ∷ g.lost; waiting = but k g.waiting })) (silent Passed (record g { lost = k ∷ g.lost; waiting = but k g.waiting }) refl refl refl refl refl refl (by.none g.field))
 
     crashes_leaves : (r : ℕ) → LeavesIn g (happening.crashes field r g)
     crashes_leaves r = silent Passed (record g { running = but r g.running; field = field.stop g.field r }) refl refl refl refl refl refl (by.stop g.field r)
@@ -152,7 +152,7 @@ module _ {M F : Type 0} (field : Field M F) (R : Bool → F → F → Type 0) (b
     came_calm c None = refl
     came_calm c (Some report) = refl
 
-    told_leaves : (c : ClientId) (core : Core) (a : Answered) (after : Core) (o : Option Report) → LeavesIn g (happening.told field c core a (after, o) g)
+    told_leaves : (c : ClientId) (core : Core) (a : Answered) (after : Core) (o : Option Report) → LeavesIn g (happening.hears_report field c core a (after, o) g)
     told_leaves c core a after o = record {
       past = refl;
       replica = 0;
@@ -169,7 +169,7 @@ module _ {M F : Type 0} (field : Field M F) (R : Bool → F → F → Type 0) (b
 
     hears_leaves : (c : ClientId) (k : ℕ) (o : Option Answered) → LeavesIn g (happening.hears field c k o g)
     hears_leaves c k None = refuses _
-    hears_leaves c k (Some a) = unless_leaves (not (is_client a.client c)) _ (happening.hears_with field c a (core_of g.cores c)) (hears_with_leaves c a (core_of g.cores c))
+    hears_leaves c k (Some a) = refused_if_leaves (not (is_client a.client c)) _ (happening.hears_with field c a (core_of g.cores c)) (hears_with_leaves c a (core_of g.cores c))
 
     starts_all_goes : (c : Conf) (limit : ℕ) (vs : List ℕ) (f : F) → R false g.field f → R false g.field (happening.starts_all field f c limit vs)
     starts_all_goes c limit [] f on = on
@@ -181,8 +181,8 @@ module _ {M F : Type 0} (field : Field M F) (R : Bool → F → F → Type 0) (b
 
   delivers_leaves : (g : Group M F) (k : ℕ) (o : Option (Sent M)) → LeavesIn g (happening.delivers field k o g)
   delivers_leaves g k None = refuses g _
-  delivers_leaves g k (Some m) = unless_leaves g (is_in g.lost k) _ (λ g. happening.running field m.to g (happening.hands field k m))
-      (unless_leaves g (not (is_in g.running m.to)) _ (happening.hands field k m) (handed (happening.calls field m.to (Peer m.from m.to m.message) h) (calls_leaves h m.to (Peer m.from m.to m.message))))
+  delivers_leaves g k (Some m) = refused_if_leaves g (is_in g.lost k) _ (λ g. happening.running field m.to g (happening.hands field k m))
+      (refused_if_leaves g (not (is_in g.running m.to)) _ (happening.hands field k m) (handed (happening.calls field m.to (Peer m.from m.to m.message) h) (calls_leaves h m.to (Peer m.from m.to m.message))))
     where
       h : Group M F
       h = record g { waiting = but k g.waiting }
@@ -195,20 +195,20 @@ module _ {M F : Type 0} (field : Field M F) (R : Bool → F → F → Type 0) (b
   acts_leaves : (g : Group M F) (e : Event) → LeavesIn g (happening.acts field e g)
   acts_leaves g (event.Begin margin limit voters) = passes g
   acts_leaves g (event.Start zero) = passes g
-  acts_leaves g (event.Start (suc x)) = unless_leaves g (is_in g.started (suc x)) _ (happening.starts field (suc x)) (starts_leaves g (suc x))
+  acts_leaves g (event.Start (suc x)) = refused_if_leaves g (is_in g.started (suc x)) _ (happening.starts field (suc x)) (starts_leaves g (suc x))
   acts_leaves g (event.Tick r) = tells_leaves g r Tick
   acts_leaves g (event.Deliver k) = delivers_leaves g k (numbered g.messages k)
   acts_leaves g (event.Lose k) = loses_leaves g k (numbered g.messages k)
   acts_leaves g (event.Settle n) = passes g
-  acts_leaves g (event.Crash r) = unless_leaves g (not (is_in g.running r)) _ (happening.crashes field r) (crashes_leaves g r)
+  acts_leaves g (event.Crash r) = refused_if_leaves g (not (is_in g.running r)) _ (happening.crashes field r) (crashes_leaves g r)
   acts_leaves g (event.Save r) = tells_leaves g r Save
-  acts_leaves g (event.Roll r k) = unless_leaves g (not (is_in g.running r)) _ (happening.rolls field r k) (rolls_leaves g r k)
+  acts_leaves g (event.Roll r k) = refused_if_leaves g (not (is_in g.running r)) _ (happening.rolls field r k) (rolls_leaves g r k)
   acts_leaves g (event.Join r x) = tells_leaves g r (Join x)
   acts_leaves g (event.Admit r x) = tells_leaves g r (Admit x)
   acts_leaves g (event.Remove r x) = tells_leaves g r (Remove x)
   acts_leaves g (event.Ask r c n request) = tells_leaves g r (Client c n request)
   acts_leaves g (event.Want c want) = wants_leaves g c (wanted (unwrap_or (core_of g.cores c) new_core) want)
-  acts_leaves g (event.Say c r) = says_leaves g c r (happening.said_by field (core_of g.cores c))
+  acts_leaves g (event.Say c r) = says_leaves g c r (happening.said_if_any field (core_of g.cores c))
   acts_leaves g (event.Hear c k) = hears_leaves g c k (numbered g.answers k)
   acts_leaves g (event.Margin r n) = tells_leaves g r (Margin n)
   acts_leaves g (event.Again c) = passes g

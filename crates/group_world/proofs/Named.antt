@@ -98,12 +98,12 @@ module _ (m : Meaning) where
   abbrev Before : StateOf m → H → Type 0
   Before f x = IsNamedUpTo f x → AreNamed m f
 
-  unless-before : (b : Bool) (refusal : GroupRefusal) (g : G) (next : G → H) → Before g.field (next g) → Before g.field (happening.unless (model_of m) b refusal g next)
-  unless-before true refusal g next h = λ named. named
-  unless-before false refusal g next h = h
+  refused_if-before : (b : Bool) (refusal : GroupRefusal) (g : G) (next : G → H) → Before g.field (next g) → Before g.field (happening.refused_if (model_of m) b refusal g next)
+  refused_if-before true refusal g next h = λ named. named
+  refused_if-before false refusal g next h = h
 
   running-before : (r : ℕ) (g : G) (next : G → H) → Before g.field (next g) → Before g.field (happening.running (model_of m) r g next)
-  running-before r g next h = unless-before (not (is_in g.running r)) (NotRunning r) g next h
+  running-before r g next h = refused_if-before (not (is_in g.running r)) (NotRunning r) g next h
 
   replied-on : (r : ℕ) (g : G) (reply : Reply (MessageOf m) (StateOf m)) → IsNamedUpTo g.field (happening.replied (model_of m) r g reply) → IsNamedOn m g.field reply
   replied-on r g (Answers batch sent f) named = named
@@ -141,19 +141,19 @@ module _ (m : Meaning) where
   starts-before : (r : ℕ) (g : G) → Before g.field (happening.starts_new (model_of m) r g)
   starts-before zero g = λ named. named
   starts-before (suc k) g =
-      unless-before (is_in g.started (suc k)) (AlreadyStarted (suc k)) g (happening.starts (model_of m) (suc k))
+      refused_if-before (is_in g.started (suc k)) (AlreadyStarted (suc k)) g (happening.starts (model_of m) (suc k))
       (connected-before (suc k) g.running ((model_of m).start g.field (Learn (suc k) g.running)) g.field _ (λ h since. since) (start_before m g.field (Learn (suc k) g.running)))
 
   delivers-before : (k : ℕ) (o : Option (Sent (MessageOf m))) (g : G) → Before g.field (happening.delivers (model_of m) k o g)
   delivers-before k None g = λ named. named
   delivers-before k (Some s) g =
-      unless-before (is_in g.lost k) (Lost k) g (λ g. happening.running (model_of m) s.to g (happening.hands (model_of m) k s))
+      refused_if-before (is_in g.lost k) (Lost k) g (λ g. happening.running (model_of m) s.to g (happening.hands (model_of m) k s))
       (running-before s.to g (happening.hands (model_of m) k s) (calls-before s.to (Peer s.from s.to s.message) (record g { waiting = but k g.waiting })))
 
   loses-before : (k : ℕ) (o : Option (Sent (MessageOf m))) (g : G) → Before g.field (happening.loses (model_of m) k o g)
   loses-before k None g = λ named. named
   loses-before k (Some s) g =
-      unless-before (is_in g.lost k) (Lost k) g (λ g. Happened Passed (record g { lost = k ∷ g.lost; waiting = but k g.waiting })) (λ named. named)
+      refused_if-before (is_in g.lost k) (Lost k) g (λ g. Happened Passed (record g { lost = k ∷ g.lost; waiting = but k g.waiting })) (λ named. named)
 
   rolled-on : (r : ℕ) (g : G) (reply : Reply (MessageOf m) (StateOf m)) → IsNamedUpTo g.field (happening.rolled (model_of m) r g reply) → IsNamedOn m g.field reply
   rolled-on r g (Answers batch sent f) named =
@@ -164,7 +164,7 @@ module _ (m : Meaning) where
 
   rolls-before : (r k : ℕ) (g : G) → Before g.field (happening.rolls (model_of m) r k g)
   rolls-before r k g =
-      unless-before (not (nat_le k (saves_of g.saves r))) (NoSuchState k) g (λ g. happening.rolled (model_of m) r g ((model_of m).call g.field r (Roll k)))
+      refused_if-before (not (nat_le k (saves_of g.saves r))) (NoSuchState k) g (λ g. happening.rolled (model_of m) r g ((model_of m).call g.field r (Roll k)))
       (λ named. call_before m g.field r (Roll k) (rolled-on r g ((model_of m).call g.field r (Roll k)) named))
 
   wants-before : (c : ClientId) (r : Result Core WantFault) (g : G) → Before g.field (happening.wants (model_of m) c r g)
@@ -182,7 +182,7 @@ module _ (m : Meaning) where
   hears-before : (c : ClientId) (k : ℕ) (o : Option Answered) (g : G) → Before g.field (happening.hears (model_of m) c k o g)
   hears-before c k None g = λ named. named
   hears-before c k (Some a) g =
-      unless-before (not (is_client a.client c)) (NotYours k) g (happening.hears_with (model_of m) c a (core_of g.cores c)) (heard-before c a (core_of g.cores c) g)
+      refused_if-before (not (is_client a.client c)) (NotYours k) g (happening.hears_with (model_of m) c a (core_of g.cores c)) (heard-before c a (core_of g.cores c) g)
 
   acts-before : (e : Event) (g : G) → Before g.field (acts (model_of m) e g)
   acts-before (event.Begin margin limit voters) g = λ named. named
@@ -199,7 +199,7 @@ module _ (m : Meaning) where
   acts-before (event.Remove r x) g = tells-before r (Remove x) g
   acts-before (event.Ask r c n request) g = tells-before r (Client c n request) g
   acts-before (event.Want c w) g = wants-before c (wanted (unwrap_or (core_of g.cores c) new_core) w) g
-  acts-before (event.Say c r) g = says-before c r (happening.said_by (model_of m) (core_of g.cores c)) g
+  acts-before (event.Say c r) g = says-before c r (happening.said_if_any (model_of m) (core_of g.cores c)) g
   acts-before (event.Hear c k) g = hears-before c k (numbered g.answers k) g
   acts-before (event.Margin r n) g = tells-before r (Margin n) g
   acts-before (event.Again c) g = λ named. named

@@ -8,7 +8,7 @@ use Rattle.values.specs.declared.message.Answer.{Answer}
 use Rattle.group_model.specs.Group.{Answered, is_client}
 use Rattle.trace_model.specs.Driven.{answers_to, last_answer}
 use Rattle.group_world.specs.declared.answered.Answered.{Answered as Kept}
-use Rattle.group_world.specs.Newest.{found_after, newest_after, told}
+use Rattle.group_world.specs.Newest.{found_after, newest_after, without_giver}
 use Rattle.group_world.specs.Standing.{AreKept, IsKept}
 use Rattle.group_world.proofs.ClosingLines.{as_many_answers}
 
@@ -17,18 +17,18 @@ module _ (c : ClientId) (number : ℕ) where
   finds found x = if answers_to c number x.1 then Some x else found
 
   one_more : (k : ℕ) (kept : Kept) (given : Answered) → IsKept kept given → (found : Option (ℕ × Answered))
-      → found_after c number (option_map told found) (k, kept) ≡ option_map told (finds found (k, given))
+      → found_after c number (option_map without_giver found) (k, kept) ≡ option_map without_giver (finds found (k, given))
   one_more k kept given is found =
-      ap (λ (x : ClientId × (ℕ × Answer)). if is_client x.0 c && (x.1.0 == number) then Some (k, x.1.1) else option_map told found)
+      ap (λ (x : ClientId × (ℕ × Answer)). if is_client x.0 c && (x.1.0 == number) then Some (k, x.1.1) else option_map without_giver found)
       (ap (λ (d : ClientId). (d, (kept.number, kept.answer))) is.client ∙ ap (λ (n : ℕ). (given.client, (n, kept.answer))) is.number ∙ ap (λ (a : Answer). (given.client, (given.number, a))) is.answer)
       ∙ by (is_client given.client c && (given.number == number))
     where
-      by : (b : Bool) → (if b then Some (k, given.answer) else option_map told found) ≡ option_map told (if b then Some (k, given) else found)
+      by : (b : Bool) → (if b then Some (k, given.answer) else option_map without_giver found) ≡ option_map without_giver (if b then Some (k, given) else found)
       by true = refl
       by false = refl
 
   pub newest_so : (k : ℕ) (kept : List Kept) (given : List Answered) → AreKept kept given → (found : Option (ℕ × Answered))
-      → fold (found_after c number) (option_map told found) (enumerate_from k kept) ≡ option_map told (fold finds found (enumerate_from k given))
+      → fold (found_after c number) (option_map without_giver found) (enumerate_from k kept) ≡ option_map without_giver (fold finds found (enumerate_from k given))
   newest_so k [] [] are found = refl
   newest_so k [] (g ∷ gs) are found = absurd are
   newest_so k (a ∷ bs) [] are found = absurd are
@@ -49,4 +49,4 @@ all_after n xs ys is = take_all (length xs - n) (drop n xs) (omega (arith, lengt
 -- nothing comes after all
 pub none_after : (c : ClientId) (number n : ℕ) (kept : List Kept) (given : List Answered) → AreKept kept given → length kept ≤ n → None ≡ newest_after c number n given
 none_after c number n kept given are past =
-    ap (λ (gs : List Answered). option_map told (last_answer c number (enumerate_from (n + 1) gs))) (sym (drop_all n given (omega (arith, past, as_many_answers kept given are))))
+    ap (λ (gs : List Answered). option_map without_giver (last_answer c number (enumerate_from (n + 1) gs))) (sym (drop_all n given (omega (arith, past, as_many_answers kept given are))))

@@ -21,7 +21,7 @@ use Rattle.schedule_model.specs.Reading.{max_u32}
 use Rattle.replica_model.specs.Path.{Link, end_point, same_point}
 use Rattle.replica_model.specs.Replica.{Named, Sending, Taking, Role, Learner, Follower, Candidate, Leader, Leading, Replica}
 use Rattle.replica_model.specs.Message.{Message}
-use Rattle.replica_model.specs.Call as told_of
+use Rattle.replica_model.specs.Call as model_call
 use Rattle.replica_model.specs.Call.{Call, still}
 use Rattle.replica_model.specs.Term.{followed, higher_term, learner_term}
 use Rattle.replica_model.specs.Votes.{vote_asked, vote_heard, counted, stand, stands, stood, asks_votes, is_elected, win, with_vote}
@@ -31,7 +31,7 @@ use Rattle.replica_model.specs.Peers.{is_peer, is_voter, leads_with, progress_of
 use Rattle.replica_model.specs.Raise.{raise, to_every_peer}
 use Rattle.replica_model.specs.Tables.{expects, is_taken, learner_hears, named_by, part_heard, part_taken, parts_of, rows_of, sending_done, sending_heard, sends_next, taken_by, taken_with, takes, takes_whole}
 use Rattle.replica_model.specs.Clients.{client_request, on_request, valid_request, request_heard}
-use Rattle.replica_model.specs.Changes.{unless, at_leader, join_refusal, admit_refusal, remove_refusal, margin_refusal}
+use Rattle.replica_model.specs.Changes.{refused_or, at_leader, join_refusal, admit_refusal, remove_refusal, margin_refusal}
 use Rattle.replica_model.specs.Ticks.{tick}
 use Rattle.replica_model.specs.Send.{send_append, send_appends, stepped_down, ended}
 use Rattle.replica_model.specs.Step.{hears, hears_older, holder_hears, peer_hears, acts_on, acts, step}
@@ -201,7 +201,7 @@ module _ (link : Link) (v : ℕ) where
         by_request (Err faults.Nothing) = mine
         by_request (Err (faults.Size part size)) = mine
 
-    changed : (refusal : Option Refusal) (c : Call) → Own c → Own (unless s refusal c)
+    changed : (refusal : Option Refusal) (c : Call) → Own c → Own (refused_or s refusal c)
     changed (Some refusal) c done = mine
     changed None c done = done
 
@@ -211,24 +211,24 @@ module _ (link : Link) (v : ℕ) where
     if-leading Follower change done = mine
     if-leading (Candidate votes) change done = mine
 
-    acted : (i : told_of.Input) → Own (acts_on link s i)
-    acted told_of.Tick = ticked s.role
-    acted (told_of.Peer from m) = peer-heard s.role from m
-    acted (told_of.Client client number request) = asks-of client number request
-    acted (told_of.Join id linked) = if-leading s.role _ (λ l. changed (join_refusal s l id linked) _ mine)
-    acted (told_of.Admit id) = if-leading s.role _ (λ l. changed (admit_refusal s l id) _ mine)
-    acted (told_of.Remove id) = if-leading s.role _ (λ l. changed (remove_refusal s id) _ mine)
-    acted (told_of.Margin margin) = if-leading s.role _ (λ l. changed (margin_refusal s margin) _ mine)
+    acted : (i : model_call.Input) → Own (acts_on link s i)
+    acted model_call.Tick = ticked s.role
+    acted (model_call.Peer from m) = peer-heard s.role from m
+    acted (model_call.Client client number request) = asks-of client number request
+    acted (model_call.Join id linked) = if-leading s.role _ (λ l. changed (join_refusal s l id linked) _ mine)
+    acted (model_call.Admit id) = if-leading s.role _ (λ l. changed (admit_refusal s l id) _ mine)
+    acted (model_call.Remove id) = if-leading s.role _ (λ l. changed (remove_refusal s id) _ mine)
+    acted (model_call.Margin margin) = if-leading s.role _ (λ l. changed (margin_refusal s margin) _ mine)
 
-    acted-halted : (o : Option (ℕ × Hash × Hash)) (i : told_of.Input) → Own (acts link s o i)
+    acted-halted : (o : Option (ℕ × Hash × Hash)) (i : model_call.Input) → Own (acts link s o i)
     acted-halted None i = acted i
-    acted-halted (Some d) told_of.Tick = mine
-    acted-halted (Some d) (told_of.Peer from m) = mine
-    acted-halted (Some d) (told_of.Client client number request) = asks-of client number request
-    acted-halted (Some d) (told_of.Join id linked) = mine
-    acted-halted (Some d) (told_of.Admit id) = mine
-    acted-halted (Some d) (told_of.Remove id) = mine
-    acted-halted (Some d) (told_of.Margin margin) = mine
+    acted-halted (Some d) model_call.Tick = mine
+    acted-halted (Some d) (model_call.Peer from m) = mine
+    acted-halted (Some d) (model_call.Client client number request) = asks-of client number request
+    acted-halted (Some d) (model_call.Join id linked) = mine
+    acted-halted (Some d) (model_call.Admit id) = mine
+    acted-halted (Some d) (model_call.Remove id) = mine
+    acted-halted (Some d) (model_call.Margin margin) = mine
 
   append-sent : (c : Call) (r : Role) (to : ℕ) → Own c → Own (send_append link c r to)
   append-sent c (Learner taking) to at = at
@@ -252,7 +252,7 @@ module _ (link : Link) (v : ℕ) where
       let d = send_appends link c c.appends in
       down-stepped d.state d.state.role (appends-sent c.appends c at)
 
-  pub stepped-own : (s : Replica) (i : told_of.Input) → s.me ≡ v → Own (step link s i)
+  pub stepped-own : (s : Replica) (i : model_call.Input) → s.me ≡ v → Own (step link s i)
   stepped-own s i mine = ended-own (acts link s s.halted i) (acts link s s.halted i).state.halted (acted-halted s mine s.halted i)
 
   -- ---- an enclave
@@ -274,7 +274,7 @@ module _ (link : Link) (v : ℕ) where
     accepted-own : (mine linked : Bool) (from to : ℕ) (m : Message) → IsOwn (accepts mine linked link e from to m).enclave
     accepted-own false linked from to m = own
     accepted-own true false from to m = own
-    accepted-own true true from to m = (stepped-own e.replica (told_of.Peer from m) own.0, own.1)
+    accepted-own true true from to m = (stepped-own e.replica (model_call.Peer from m) own.0, own.1)
 
     saved-own : (room : Bool) → IsOwn (saves_if room e).enclave
     saved-own true = (own.0, saved-more e.saved e.replica own.1 own.0)
@@ -285,13 +285,13 @@ module _ (link : Link) (v : ℕ) where
     rolled-own k (Some s) is = (saved-at e.saved k s own.1 is, own.1)
 
     pub called-own : (input : HostInput Message) → IsOwn (called link e input).enclave
-    called-own Tick = (stepped-own e.replica told_of.Tick own.0, own.1)
+    called-own Tick = (stepped-own e.replica model_call.Tick own.0, own.1)
     called-own (Peer from to m) = accepted-own (to == e.replica.me) (is_in e.links from) from to m
-    called-own (Client client number bytes) = (stepped-own e.replica (told_of.Client client number bytes) own.0, own.1)
-    called-own (Join id) = (stepped-own e.replica (told_of.Join id (is_in e.links id)) own.0, own.1)
-    called-own (Admit id) = (stepped-own e.replica (told_of.Admit id) own.0, own.1)
-    called-own (Remove id) = (stepped-own e.replica (told_of.Remove id) own.0, own.1)
+    called-own (Client client number bytes) = (stepped-own e.replica (model_call.Client client number bytes) own.0, own.1)
+    called-own (Join id) = (stepped-own e.replica (model_call.Join id (is_in e.links id)) own.0, own.1)
+    called-own (Admit id) = (stepped-own e.replica (model_call.Admit id) own.0, own.1)
+    called-own (Remove id) = (stepped-own e.replica (model_call.Remove id) own.0, own.1)
     called-own Save = saved-own (not (length e.saved - 1 == max_u32))
     called-own (Roll k) = rolled-own k (slice_get e.saved k) refl
     called-own (Connect id) = own
-    called-own (Margin margin) = (stepped-own e.replica (told_of.Margin margin) own.0, own.1)
+    called-own (Margin margin) = (stepped-own e.replica (model_call.Margin margin) own.0, own.1)

@@ -35,11 +35,11 @@ module _ (w : World) (map : Option Map) (r : ℕ) where
   pub idle_crashes : is_in w.running.items r ≡ false → Does (Acts (event.Crash r)) w w map map [] (Ok (came.Refused (refusal.NotRunning r)))
   idle_crashes idle = λ m later g x sees it named.
       let not_in = runs_same (SaysMessage m) w g r false sees.world idle in
-      (g, it ∙ ap (λ (b : Bool). happening.unless (model_of m) (not b) (refusals.NotRunning r) g (happening.crashes (model_of m) r)) not_in, sees)
+      (g, it ∙ ap (λ (b : Bool). happening.refused_if (model_of m) (not b) (refusals.NotRunning r) g (happening.crashes (model_of m) r)) not_in, sees)
 
   module _ (runs : is_in w.running.items r ≡ true) where
     crash_is : (m : Meaning) (g : Group (MessageOf m) (StateOf m)) → IsWorld (SaysMessage m) w g → acts (model_of m) (event.Crash r) g ≡ happening.crashes (model_of m) r g
-    crash_is m g world = ap (λ (b : Bool). happening.unless (model_of m) (not b) (refusals.NotRunning r) g (happening.crashes (model_of m) r)) (runs_same (SaysMessage m) w g r true world runs)
+    crash_is m g world = ap (λ (b : Bool). happening.refused_if (model_of m) (not b) (refusals.NotRunning r) g (happening.crashes (model_of m) r)) (runs_same (SaysMessage m) w g r true world runs)
 
     pub crash_fails : (w' : World) (map' : Option Map) → Does (Acts (event.Crash r)) w w' map map' [] (Err unplayed.FieldFault)
     crash_fails w' map' = λ m g x sees it named.
@@ -150,22 +150,22 @@ module _ (w : World) (map : Option Map) (r k : ℕ) where
   pub idle_rolls : is_in w.running.items r ≡ false → Does (Acts (event.Roll r k)) w w map map [] (Ok (came.Refused (refusal.NotRunning r)))
   idle_rolls idle = λ m later g x sees it named.
       let not_in = runs_same (SaysMessage m) w g r false sees.world idle in
-      (g, it ∙ ap (λ (b : Bool). happening.unless (model_of m) (not b) (refusals.NotRunning r) g (happening.rolls (model_of m) r k)) not_in, sees)
+      (g, it ∙ ap (λ (b : Bool). happening.refused_if (model_of m) (not b) (refusals.NotRunning r) g (happening.rolls (model_of m) r k)) not_in, sees)
 
   module _ (runs : is_in w.running.items r ≡ true) where
     roll_is : (m : Meaning) (g : Group (MessageOf m) (StateOf m)) (b : Bool) → IsWorld (SaysMessage m) w g → nat_le k (saves_of w.saves.items r) ≡ b
         → acts (model_of m) (event.Roll r k) g
-        ≡ happening.unless (model_of m) (not b) (refusals.NoSuchState k) g (λ h. happening.rolled (model_of m) r h ((model_of m).call h.field r (Roll k)))
+        ≡ happening.refused_if (model_of m) (not b) (refusals.NoSuchState k) g (λ h. happening.rolled (model_of m) r h ((model_of m).call h.field r (Roll k)))
     roll_is m g b world is =
-        ap (λ (b : Bool). happening.unless (model_of m) (not b) (refusals.NotRunning r) g (happening.rolls (model_of m) r k)) (runs_same (SaysMessage m) w g r true world runs)
-        ∙ ap (λ (b : Bool). happening.unless (model_of m) (not b) (refusals.NoSuchState k) g (λ h. happening.rolled (model_of m) r h ((model_of m).call h.field r (Roll k)))) (ap (nat_le k) (sym (world.saves r)) ∙ is)
+        ap (λ (b : Bool). happening.refused_if (model_of m) (not b) (refusals.NotRunning r) g (happening.rolls (model_of m) r k)) (runs_same (SaysMessage m) w g r true world runs)
+        ∙ ap (λ (b : Bool). happening.refused_if (model_of m) (not b) (refusals.NoSuchState k) g (λ h. happening.rolled (model_of m) r h ((model_of m).call h.field r (Roll k)))) (ap (nat_le k) (sym (world.saves r)) ∙ is)
 
     pub not_saved : nat_le k (saves_of w.saves.items r) ≡ false → Does (Acts (event.Roll r k)) w w map map [] (Ok (came.Refused (refusal.NoSuchState k)))
     not_saved few = λ m later g x sees it named. (g, it ∙ roll_is m g false sees.world few, sees)
 
     module _ (enough : nat_le k (saves_of w.saves.items r) ≡ true) (map' : Option Map) (given : List Given) (w1 w' : World) where
       told_is : (m : Meaning) (g : Group (MessageOf m) (StateOf m)) → IsWorld (SaysMessage m) w g → tells (model_of m) r (Roll k) g ≡ happening.replied (model_of m) r g ((model_of m).call g.field r (Roll k))
-      told_is m g world = ap (λ (b : Bool). happening.unless (model_of m) (not b) (refusals.NotRunning r) g (happening.calls (model_of m) r (Roll k))) (runs_same (SaysMessage m) w g r true world runs)
+      told_is m g world = ap (λ (b : Bool). happening.refused_if (model_of m) (not b) (refusals.NotRunning r) g (happening.calls (model_of m) r (Roll k))) (runs_same (SaysMessage m) w g r true world runs)
 
       named_told : (m : Meaning) (g : Group (MessageOf m) (StateOf m)) (x : Happening (MessageOf m) (StateOf m)) → IsWorld (SaysMessage m) w g → x ≡ acts (model_of m) (event.Roll r k) g → IsNamedIn m x → IsNamedIn m (tells (model_of m) r (Roll k) g)
       named_told m g x world it named =

@@ -17,9 +17,9 @@ abbrev pub last_kept : ClientId → ℕ → List (ℕ × Answered) → Option (�
 last_kept c number answers = fold (found_after c number) None answers
 
 -- without who gave it
-abbrev pub told : ℕ × group.Answered → ℕ × Answer
-told x = (x.0, x.1.answer)
+abbrev pub without_giver : ℕ × group.Answered → ℕ × Answer
+without_giver x = (x.0, x.1.answer)
 
 -- the newest one to this number of the client among the answers of a group after the first n
 abbrev pub newest_after : ClientId → ℕ → ℕ → List group.Answered → Option (ℕ × Answer)
-newest_after c number n answers = option_map told (last_answer c number (enumerate_from (n + 1) (drop n answers)))
+newest_after c number n answers = option_map without_giver (last_answer c number (enumerate_from (n + 1) (drop n answers)))

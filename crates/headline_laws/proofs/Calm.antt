@@ -53,22 +53,22 @@ module _ (link : Link) (NoRoll : Type 0) (g : World) where
   passes : (came : Came) → CameCalm came → Calm NoRoll g (Happened came g)
   passes came fine = record { back = λ h. h; told = λ h. fine; same = λ n. refl }
 
-  unless_calm : (b : Bool) (refusal : GroupRefusal) (next : World → Happening Message Enclaves) → Calm NoRoll g (next g) → Calm NoRoll g (happening.unless (enclaves link) b refusal g next)
-  unless_calm true refusal next h = passes (Refused refusal) tt
-  unless_calm false refusal next h = h
+  refused_if_calm : (b : Bool) (refusal : GroupRefusal) (next : World → Happening Message Enclaves) → Calm NoRoll g (next g) → Calm NoRoll g (happening.refused_if (enclaves link) b refusal g next)
+  refused_if_calm true refusal next h = passes (Refused refusal) tt
+  refused_if_calm false refusal next h = h
 
   replied_calm : (v : ℕ) (input : HostInput Message) (o : Option Enclave) → Calm NoRoll g (happening.replied (enclaves link) v g (call_enclave link g.field v input o))
   replied_calm v input None = tt
   replied_calm v input (Some e) = record { back = λ h. h.1; told = λ h. h.0; same = λ n. refl }
 
   tells_calm : (v : ℕ) (input : HostInput Message) → Calm NoRoll g (happening.tells (enclaves link) v input g)
-  tells_calm v input = unless_calm (not (is_in g.running v)) _ (happening.calls (enclaves link) v input) (replied_calm v input (value_at g.field.running v))
+  tells_calm v input = refused_if_calm (not (is_in g.running v)) _ (happening.calls (enclaves link) v input) (replied_calm v input (value_at g.field.running v))
 
   delivers_calm : (k : ℕ) (o : Option (Sent Message)) → Calm NoRoll g (happening.delivers (enclaves link) k o g)
   delivers_calm k None = passes _ tt
   delivers_calm k (Some m) =
-      unless_calm (is_in g.lost k) _ (λ g. happening.running (enclaves link) m.to g (happening.hands (enclaves link) k m))
-      (unless_calm (not (is_in g.running m.to)) _ (happening.hands (enclaves link) k m) (handed (value_at g.field.running m.to)))
+      refused_if_calm (is_in g.lost k) _ (λ g. happening.running (enclaves link) m.to g (happening.hands (enclaves link) k m))
+      (refused_if_calm (not (is_in g.running m.to)) _ (happening.hands (enclaves link) k m) (handed (value_at g.field.running m.to)))
     where
       handed : (o : Option Enclave) → Calm NoRoll g (happening.replied (enclaves link) m.to (record g { waiting = but k g.waiting }) (call_enclave link g.field m.to (Peer m.from m.to m.message) o))
       handed None = tt
@@ -76,10 +76,10 @@ module _ (link : Link) (NoRoll : Type 0) (g : World) where
 
   loses_calm : (k : ℕ) (o : Option (Sent Message)) → Calm NoRoll g (happening.loses (enclaves link) k o g)
   loses_calm k None = passes _ tt
-  loses_calm k (Some m) = unless_calm (is_in g.lost k) _ (λ g. Happened Passed (record g { lost = k ∷ g.lost; waiting = but k g.waiting })) (record { back = λ h. h; told = λ h. tt; same = λ n. refl })
+  loses_calm k (Some m) = refused_if_calm (is_in g.lost k) _ (λ g. Happened Passed (record g { lost = k ∷ g.lost; waiting = but k g.waiting })) (record { back = λ h. h; told = λ h. tt; same = λ n. refl })
 
   rolls_calm : (NoRoll → ⊥) → (v k : ℕ) → Calm NoRoll g (happening.rolls (enclaves link) v k g)
-  rolls_calm never v k = unless_calm (not (nat_le k (saves_of g.saves v))) _ (λ g. happening.rolled (enclaves link) v g ((enclaves link).call g.field v (Roll k))) (put_back (value_at g.field.running v))
+  rolls_calm never v k = refused_if_calm (not (nat_le k (saves_of g.saves v))) _ (λ g. happening.rolled (enclaves link) v g ((enclaves link).call g.field v (Roll k))) (put_back (value_at g.field.running v))
     where
       put_back : (o : Option Enclave) → Calm NoRoll g (happening.rolled (enclaves link) v g (call_enclave link g.field v (Roll k) o))
       put_back None = tt
@@ -117,12 +117,12 @@ module _ (link : Link) (NoRoll : Type 0) (g : World) where
       came_calm None = tt
       came_calm (Some report) = tt
 
-      reported : (x : Core × Option Report) → Calm NoRoll g (happening.told (enclaves link) c core a x g)
+      reported : (x : Core × Option Report) → Calm NoRoll g (happening.hears_report (enclaves link) c core a x g)
       reported (after, report) = record { back = λ h. h; told = λ h. came_calm report; same = λ n. refl }
 
   hears_calm : (c : ClientId) (k : ℕ) (o : Option Answered) → Calm NoRoll g (happening.hears (enclaves link) c k o g)
   hears_calm c k None = passes _ tt
-  hears_calm c k (Some a) = unless_calm (not (is_client a.client c)) _ (happening.hears_with (enclaves link) c a (core_of g.cores c)) (hears_with_calm c a (core_of g.cores c))
+  hears_calm c k (Some a) = refused_if_calm (not (is_client a.client c)) _ (happening.hears_with (enclaves link) c a (core_of g.cores c)) (hears_with_calm c a (core_of g.cores c))
 
   voters_back : (c : Conf) (limit : ℕ) (vs : List ℕ) (f : Enclaves) → IsUntold (happening.starts_all (enclaves link) f c limit vs) → IsUntold f
   voters_back c limit [] f h = h
@@ -134,19 +134,19 @@ module _ (link : Link) (NoRoll : Type 0) (g : World) where
 
 module _ (link : Link) (g : World) where
   acts_calm : (e : Event) → Calm (IsNoRoll e) g (happening.acts (enclaves link) e g)
-  acts_calm (event.Start (suc x)) = unless_calm link _ g (is_in g.started (suc x)) _ (happening.starts (enclaves link) (suc x)) (connected_calm link _ g (suc x) g.running _ (start_enclave g.field (Learn (suc x) g.running)) (λ u. u.1))
+  acts_calm (event.Start (suc x)) = refused_if_calm link _ g (is_in g.started (suc x)) _ (happening.starts (enclaves link) (suc x)) (connected_calm link _ g (suc x) g.running _ (start_enclave g.field (Learn (suc x) g.running)) (λ u. u.1))
   acts_calm (event.Tick v) = tells_calm link _ g v Tick
   acts_calm (event.Deliver k) = delivers_calm link _ g k (numbered g.messages k)
   acts_calm (event.Lose k) = loses_calm link _ g k (numbered g.messages k)
-  acts_calm (event.Crash v) = unless_calm link _ g (not (is_in g.running v)) _ (happening.crashes (enclaves link) v) (record { back = λ h. h; told = λ h. tt; same = λ n. refl })
+  acts_calm (event.Crash v) = refused_if_calm link _ g (not (is_in g.running v)) _ (happening.crashes (enclaves link) v) (record { back = λ h. h; told = λ h. tt; same = λ n. refl })
   acts_calm (event.Save v) = tells_calm link _ g v Save
-  acts_calm (event.Roll v k) = unless_calm link _ g (not (is_in g.running v)) _ (happening.rolls (enclaves link) v k) (rolls_calm link _ g (λ never. never) v k)
+  acts_calm (event.Roll v k) = refused_if_calm link _ g (not (is_in g.running v)) _ (happening.rolls (enclaves link) v k) (rolls_calm link _ g (λ never. never) v k)
   acts_calm (event.Join v x) = tells_calm link _ g v (Join x)
   acts_calm (event.Admit v x) = tells_calm link _ g v (Admit x)
   acts_calm (event.Remove v x) = tells_calm link _ g v (Remove x)
   acts_calm (event.Ask v c n request) = tells_calm link _ g v (Client c n request)
   acts_calm (event.Want c w) = wants_calm link _ g c (wanted (unwrap_or (core_of g.cores c) new_core) w)
-  acts_calm (event.Say c v) = says_calm link _ g c v (happening.said_by (enclaves link) (core_of g.cores c))
+  acts_calm (event.Say c v) = says_calm link _ g c v (happening.said_if_any (enclaves link) (core_of g.cores c))
   acts_calm (event.Hear c k) = hears_calm link _ g c k (numbered g.answers k)
   acts_calm (event.Margin v m) = tells_calm link _ g v (Margin m)
   acts_calm other = passes link _ g _ tt

@@ -24,9 +24,9 @@ module _ {M F : Type 0} where
   HasPast past (Broken at f) = Unit {0}
   HasPast past Unanswered = Unit {0}
 
-  unless_past : (field : Field M F) (b : Bool) (refusal : GroupRefusal) (g : Group M F) (next : Group M F → Happening M F) → HasPast g.past (next g) → HasPast g.past (happening.unless field b refusal g next)
-  unless_past field true refusal g next h = refl
-  unless_past field false refusal g next h = h
+  refused_if_past : (field : Field M F) (b : Bool) (refusal : GroupRefusal) (g : Group M F) (next : Group M F → Happening M F) → HasPast g.past (next g) → HasPast g.past (happening.refused_if field b refusal g next)
+  refused_if_past field true refusal g next h = refl
+  refused_if_past field false refusal g next h = h
 
   module _ (field : Field M F) (g : Group M F) where
     replied_past : (r : ℕ) (reply : Reply M F) → HasPast g.past (happening.replied field r g reply)
@@ -35,7 +35,7 @@ module _ {M F : Type 0} where
     replied_past r Nothing = tt
 
     tells_past : (r : ℕ) (input : HostInput M) → HasPast g.past (happening.tells field r input g)
-    tells_past r input = unless_past field (not (is_in g.running r)) _ g (happening.calls field r input) (replied_past r (field.call g.field r input))
+    tells_past r input = refused_if_past field (not (is_in g.running r)) _ g (happening.calls field r input) (replied_past r (field.call g.field r input))
 
     connected_past : (past : List Event) (x : ℕ) (rs : List ℕ) (f : F) (next : F → Happening M F) → ((f : F) → HasPast past (next f)) → HasPast past (happening.connected field x rs f next)
     connected_past past x [] f next h = h f
@@ -52,8 +52,8 @@ module _ {M F : Type 0} where
     delivers_past : (k : ℕ) (o : Option (Sent M)) → HasPast g.past (happening.delivers field k o g)
     delivers_past k None = refl
     delivers_past k (Some m) =
-        unless_past field (is_in g.lost k) _ g (λ g. happening.running field m.to g (happening.hands field k m))
-        (unless_past field (not (is_in g.running m.to)) _ g (happening.hands field k m) (handed (field.call g.field m.to _)))
+        refused_if_past field (is_in g.lost k) _ g (λ g. happening.running field m.to g (happening.hands field k m))
+        (refused_if_past field (not (is_in g.running m.to)) _ g (happening.hands field k m) (handed (field.call g.field m.to _)))
       where
         handed : (reply : Reply M F) → HasPast g.past (happening.replied field m.to (record g { waiting = but k g.waiting }) reply)
         handed (Answers batch sent f) = refl
@@ -62,7 +62,7 @@ module _ {M F : Type 0} where
 
     loses_past : (k : ℕ) (o : Option (Sent M)) → HasPast g.past (happening.loses field k o g)
     loses_past k None = refl
-    loses_past k (Some m) = unless_past field (is_in g.lost k) _ g (λ g. Happened happening.Passed (record g { lost = k ∷ g.lost; waiting = but k g.waiting })) refl
+    loses_past k (Some m) = refused_if_past field (is_in g.lost k) _ g (λ g. Happened happening.Passed (record g { lost = k ∷ g.lost; waiting = but k g.waiting })) refl
 
     rolled_past : (r : ℕ) (reply : Reply M F) → HasPast g.past (happening.rolled field r g reply)
     rolled_past r (Answers batch sent f) =
@@ -72,7 +72,7 @@ module _ {M F : Type 0} where
     rolled_past r Nothing = tt
 
     rolls_past : (r k : ℕ) → HasPast g.past (happening.rolls field r k g)
-    rolls_past r k = unless_past field (not (nat_le k (saves_of g.saves r))) _ g (λ g. happening.rolled field r g (field.call g.field r (Roll k))) (rolled_past r (field.call g.field r (Roll k)))
+    rolls_past r k = refused_if_past field (not (nat_le k (saves_of g.saves r))) _ g (λ g. happening.rolled field r g (field.call g.field r (Roll k))) (rolled_past r (field.call g.field r (Roll k)))
 
     wants_past : (c : ClientId) (r : Result Core WantFault) → HasPast g.past (happening.wants field c r g)
     wants_past c (Err fault) = refl
@@ -88,26 +88,26 @@ module _ {M F : Type 0} where
 
     hears_past : (c : ClientId) (k : ℕ) (o : Option Answered) → HasPast g.past (happening.hears field c k o g)
     hears_past c k None = refl
-    hears_past c k (Some a) = unless_past field (not (is_client a.client c)) _ g (happening.hears_with field c a (core_of g.cores c)) (hears_with_past c a (core_of g.cores c))
+    hears_past c k (Some a) = refused_if_past field (not (is_client a.client c)) _ g (happening.hears_with field c a (core_of g.cores c)) (hears_with_past c a (core_of g.cores c))
 
     begins_past : (limit : ℕ) (r : Result Conf ConfigFault) → HasPast g.past (happening.begins field limit r g)
     begins_past limit (Err fault) = refl
     begins_past limit (Ok c) = refl
 
     acts_past : (e : Event) → HasPast g.past (happening.acts field e g)
-    acts_past (event.Start (suc r)) = unless_past field (is_in g.started (suc r)) _ g (happening.starts field (suc r)) (starts_past (suc r))
+    acts_past (event.Start (suc r)) = refused_if_past field (is_in g.started (suc r)) _ g (happening.starts field (suc r)) (starts_past (suc r))
     acts_past (event.Tick r) = tells_past r Tick
     acts_past (event.Deliver k) = delivers_past k (numbered g.messages k)
     acts_past (event.Lose k) = loses_past k (numbered g.messages k)
-    acts_past (event.Crash r) = unless_past field (not (is_in g.running r)) _ g (happening.crashes field r) refl
+    acts_past (event.Crash r) = refused_if_past field (not (is_in g.running r)) _ g (happening.crashes field r) refl
     acts_past (event.Save r) = tells_past r Save
-    acts_past (event.Roll r k) = unless_past field (not (is_in g.running r)) _ g (happening.rolls field r k) (rolls_past r k)
+    acts_past (event.Roll r k) = refused_if_past field (not (is_in g.running r)) _ g (happening.rolls field r k) (rolls_past r k)
     acts_past (event.Join r x) = tells_past r (Join x)
     acts_past (event.Admit r x) = tells_past r (Admit x)
     acts_past (event.Remove r x) = tells_past r (Remove x)
     acts_past (event.Ask r c n request) = tells_past r (Client c n request)
     acts_past (event.Want c w) = wants_past c (wanted (unwrap_or (core_of g.cores c) new_core) w)
-    acts_past (event.Say c r) = says_past c r (happening.said_by field (core_of g.cores c))
+    acts_past (event.Say c r) = says_past c r (happening.said_if_any field (core_of g.cores c))
     acts_past (event.Hear c k) = hears_past c k (numbered g.answers k)
     acts_past (event.Margin r m) = tells_past r (Margin m)
     acts_past other = refl

@@ -61,38 +61,38 @@ said_is_read (Margin margin) fits = read_back margin_field Margin _ margin (marg
 abbrev Says : ℕ → List ℕ → Input → Type 0
 Says kind bytes input = (kind ∷ bytes ≡ input_bytes input) × FitsInput input
 
-said_by : {X : Type 0} (g : Content X) (P : X → Type 0) → IsContent g P → (make : X → Input) (kind : ℕ) (bytes : List ℕ) (input : Input) → IsBytes bytes
+said_as : {X : Type 0} (g : Content X) (P : X → Type 0) → IsContent g P → (make : X → Input) (kind : ℕ) (bytes : List ℕ) (input : Input) → IsBytes bytes
     → ((x : X) → P x → Says kind (g.spelled x) (make x)) → (g.read bytes >>= λ x. Some (make x)) ≡ Some input → Says kind bytes input
-said_by g P is make kind bytes input fits each e =
+said_as g P is make kind bytes input fits each e =
     let b = bind_some (g.read bytes) (λ x. Some (make x)) input e in
     let t = is.taken bytes b.value fits b.first in
     let s = each b.value t.1 in
     subst (Says kind bytes) (some_is (make b.value) input b.then) (ap (λ (rest : List ℕ). kind ∷ rest) t.0 ∙ s.0, s.1)
 
 begin_said : (bytes : List ℕ) (input : Input) → IsBytes bytes → begin_in bytes ≡ Some input → Says 1 bytes input
-begin_said bytes input fits e = said_by begin_fields FitsBegin begin_is (λ p. Begin p.0 p.1.0 p.1.1.0 p.1.1.1) 1 bytes input fits (λ x p. (refl, p)) e
+begin_said bytes input fits e = said_as begin_fields FitsBegin begin_is (λ p. Begin p.0 p.1.0 p.1.1.0 p.1.1.1) 1 bytes input fits (λ x p. (refl, p)) e
 
 learn_said : (bytes : List ℕ) (input : Input) → IsBytes bytes → learn_in bytes ≡ Some input → Says 2 bytes input
-learn_said bytes input fits e = said_by learn_fields FitsLearn learn_is (λ p. Learn p.0 p.1) 2 bytes input fits (λ x p. (refl, p)) e
+learn_said bytes input fits e = said_as learn_fields FitsLearn learn_is (λ p. Learn p.0 p.1) 2 bytes input fits (λ x p. (refl, p)) e
 
 tick_said : (bytes : List ℕ) (input : Input) → IsBytes bytes → bare_in Tick bytes ≡ Some input → Says 3 bytes input
-tick_said bytes input fits e = said_by nothing (λ u. Unit {0}) nothing_is (λ u. Tick) 3 bytes input fits (λ x p. (refl, tt)) e
+tick_said bytes input fits e = said_as nothing (λ u. Unit {0}) nothing_is (λ u. Tick) 3 bytes input fits (λ x p. (refl, tt)) e
 
 save_said : (bytes : List ℕ) (input : Input) → IsBytes bytes → bare_in Save bytes ≡ Some input → Says 9 bytes input
-save_said bytes input fits e = said_by nothing (λ u. Unit {0}) nothing_is (λ u. Save) 9 bytes input fits (λ x p. (refl, tt)) e
+save_said bytes input fits e = said_as nothing (λ u. Unit {0}) nothing_is (λ u. Save) 9 bytes input fits (λ x p. (refl, tt)) e
 
 client_said : (bytes : List ℕ) (input : Input) → IsBytes bytes → client_in bytes ≡ Some input → Says 5 bytes input
-client_said bytes input fits e = said_by client_fields FitsClient client_is (λ p. Client (record { 0 = p.0 }) p.1.0 p.1.1) 5 bytes input fits (λ x p. (refl, p)) e
+client_said bytes input fits e = said_as client_fields FitsClient client_is (λ p. Client (record { 0 = p.0 }) p.1.0 p.1.1) 5 bytes input fits (λ x p. (refl, p)) e
 
 margin_said : (bytes : List ℕ) (input : Input) → IsBytes bytes → margin_in bytes ≡ Some input → Says 12 bytes input
-margin_said bytes input fits e = said_by margin_field (IsOfWidth w8) margin_field_is Margin 12 bytes input fits (λ x p. (refl, p)) e
+margin_said bytes input fits e = said_as margin_field (IsOfWidth w8) margin_field_is Margin 12 bytes input fits (λ x p. (refl, p)) e
 
 peer_said : (bytes : List ℕ) (input : Input) → Some (Peer bytes) ≡ Some input → Says 4 bytes input
 peer_said bytes input e = subst (Says 4 bytes) (some_is (Peer bytes) input e) (refl, tt)
 
 numbered_said : (make : ℕ → Input) (kind : ℕ) → ((n : ℕ) → IsOfWidth w32 n → Says kind (number_field.spelled n) (make n)) → (bytes : List ℕ) (input : Input) → IsBytes bytes
     → (number_field.read bytes >>= λ n. Some (make n)) ≡ Some input → Says kind bytes input
-numbered_said make kind each bytes input fits e = said_by number_field (IsOfWidth w32) number_field_is make kind bytes input fits each e
+numbered_said make kind each bytes input fits e = said_as number_field (IsOfWidth w32) number_field_is make kind bytes input fits each e
 
 -- a kind is one of twelve
 twelve : (P : ℕ → Type 0) → P 1 → P 2 → P 3 → P 4 → P 5 → P 6 → P 7 → P 8 → P 9 → P 10 → P 11 → P 12 → (kind : ℕ) → 1 ≤ kind → kind ≤ 12 → P kind

@@ -143,9 +143,9 @@ module _ (n : ℕ) (small : n + 1 ≤ MAX_EVENTS) (link : Link) (hashes : GivesH
   now : WorldIn (n + 1) g
   now = world_later n (n + 1) (omega arith) g k
 
-  unless_stays : (b : Bool) (refusal : GroupRefusal) (next : World → Happening Message Enclaves) → (Short → IsTrue (list_all is_u64 (group_refusal_numbers refusal))) → Stays Short (n + 1) (next g) → Stays Short (n + 1) (happening.unless (enclaves link) b refusal g next)
-  unless_stays true refusal next x h = (now, x)
-  unless_stays false refusal next x h = h
+  refused_if_stays : (b : Bool) (refusal : GroupRefusal) (next : World → Happening Message Enclaves) → (Short → IsTrue (list_all is_u64 (group_refusal_numbers refusal))) → Stays Short (n + 1) (next g) → Stays Short (n + 1) (happening.refused_if (enclaves link) b refusal g next)
+  refused_if_stays true refusal next x h = (now, x)
+  refused_if_stays false refusal next x h = h
 
   -- a call, and what is kept of it
   kept_in : (v : ℕ) → IsId v → (e : Enclave) (input : HostInput Message) → value_at g.field.running v ≡ Some e → HostIn (n + 1) input
@@ -175,11 +175,11 @@ module _ (n : ℕ) (small : n + 1 ≤ MAX_EVENTS) (link : Link) (hashes : GivesH
   replied_stays v id input (Some e) is fine = kept_in v id e input is fine
 
   tells_stays : (v : ℕ) → IsId v → (input : HostInput Message) → HostIn (n + 1) input → Stays Short (n + 1) (happening.tells (enclaves link) v input g)
-  tells_stays v id input fine = unless_stays (not (is_in g.running v)) (NotRunning v) (happening.calls (enclaves link) v input) (λ short. id_number v id) (replied_stays v id input (value_at g.field.running v) refl fine)
+  tells_stays v id input fine = refused_if_stays (not (is_in g.running v)) (NotRunning v) (happening.calls (enclaves link) v input) (λ short. id_number v id) (replied_stays v id input (value_at g.field.running v) refl fine)
 
   loses_stays : (j : ℕ) → j ≤ max_u64 → (o : Option (Sent Message)) → Stays Short (n + 1) (happening.loses (enclaves link) j o g)
   loses_stays j le None = (now, λ short. u64_number j le)
-  loses_stays j le (Some x) = unless_stays (is_in g.lost j) (Lost j) (λ g. Happened Passed (record g { lost = j ∷ g.lost; waiting = but j g.waiting })) (λ short. u64_number j le)
+  loses_stays j le (Some x) = refused_if_stays (is_in g.lost j) (Lost j) (λ g. Happened Passed (record g { lost = j ∷ g.lost; waiting = but j g.waiting })) (λ short. u64_number j le)
       (record { field = now.field; mail = now.mail; answers = now.answers; cores = k.cores; running = k.running; waiting = all_filter (λ k. (1 ≤ k) × (k ≤ length g.messages)) (λ k. not (k == j)) g.waiting k.waiting; committed = now.committed }, tt)
 
   crashes_stays : (v : ℕ) → Stays Short (n + 1) (happening.crashes (enclaves link) v g)
@@ -197,7 +197,7 @@ module _ (n : ℕ) (small : n + 1 ≤ MAX_EVENTS) (link : Link) (hashes : GivesH
   )
 
   rolls_stays : (v j : ℕ) → IsId v → j ≤ max_u32 → Stays Short (n + 1) (happening.rolls (enclaves link) v j g)
-  rolls_stays v j id le = unless_stays (not (nat_le j (saves_of g.saves v))) (NoSuchState j) (λ g. happening.rolled (enclaves link) v g ((enclaves link).call g.field v (Roll j))) (λ short. u64_number j (omega (arith, le))) (put_back (value_at g.field.running v) refl)
+  rolls_stays v j id le = refused_if_stays (not (nat_le j (saves_of g.saves v))) (NoSuchState j) (λ g. happening.rolled (enclaves link) v g ((enclaves link).call g.field v (Roll j))) (λ short. u64_number j (omega (arith, le))) (put_back (value_at g.field.running v) refl)
     where
       put_back : (o : Option Enclave) → value_at g.field.running v ≡ o → Stays Short (n + 1) (happening.rolled (enclaves link) v g (call_enclave link g.field v (Roll j) o))
       put_back None is = tt
@@ -238,7 +238,7 @@ module _ (n : ℕ) (small : n + 1 ≤ MAX_EVENTS) (link : Link) (hashes : GivesH
   wants_stays c id core fine most fits w read stored (Ok core') is =
       (record { field = now.field; mail = now.mail; answers = now.answers; cores = put_core_in g.cores k.cores c core' id (wanted_in c core w fine read (Ok core') is); running = k.running; waiting = k.waiting; committed = now.committed }, tt)
 
-  says_stays : (c : ClientId) (v : ℕ) → IsTrue (is_client_id c) → IsId v → (o : Option Core) → IfSome o CoreIn → Stays Short (n + 1) (happening.says (enclaves link) c v (happening.said_by (enclaves link) o) g)
+  says_stays : (c : ClientId) (v : ℕ) → IsTrue (is_client_id c) → IsId v → (o : Option Core) → IfSome o CoreIn → Stays Short (n + 1) (happening.says (enclaves link) c v (happening.said_if_any (enclaves link) o) g)
   says_stays c v id who None fine = (now, λ short. refl)
   says_stays c v id who (Some core) fine = by_flight core.flight fine.flight
     where
@@ -256,20 +256,20 @@ module _ (n : ℕ) (small : n + 1 ≤ MAX_EVENTS) (link : Link) (hashes : GivesH
       came_in h None y = tt
       came_in h (Some r) y = (id, y)
 
-      reported : (z : Core × Option Report) → CoreIn z.0 → IfSome z.1 ReportIn → Stays Short (n + 1) (happening.told (enclaves link) c core a z g)
+      reported : (z : Core × Option Report) → CoreIn z.0 → IfSome z.1 ReportIn → Stays Short (n + 1) (happening.hears_report (enclaves link) c core a z g)
       reported (after, r) y z = (record { field = now.field; mail = now.mail; answers = now.answers; cores = put_core_in g.cores k.cores c after id y; running = k.running; waiting = k.waiting; committed = now.committed }, came_in (record g { cores = put_core g.cores c after; hearings = happening.hearing (enclaves link) c core a r ∷ g.hearings }) r z)
 
   hears_stays : (c : ClientId) → IsTrue (is_client_id c) → (j : ℕ) → j ≤ max_u64 → (o : Option Answered) → ((a : Answered) → o ≡ Some a → GivenIn n a) → Stays Short (n + 1) (happening.hears (enclaves link) c j o g)
   hears_stays c id j le None x = (now, λ short. u64_number j le)
-  hears_stays c id j le (Some a) x = unless_stays (not (is_client a.client c)) (NotYours j) (happening.hears_with (enclaves link) c a (core_of g.cores c)) (λ short. u64_number j le) (hears_with_stays c id a (x a refl) (core_of g.cores c) (core_in g.cores k.cores c))
+  hears_stays c id j le (Some a) x = refused_if_stays (not (is_client a.client c)) (NotYours j) (happening.hears_with (enclaves link) c a (core_of g.cores c)) (λ short. u64_number j le) (hears_with_stays c id a (x a refl) (core_of g.cores c) (core_in g.cores k.cores c))
 
 module _ (n : ℕ) (small : n + 1 ≤ MAX_EVENTS) (link : Link) (hashes : GivesHashes link) (most : ℕ) (fits : most ≤ max_u64) (g : World) (k : WorldIn n g) where
   delivers_stays : (j : ℕ) → j ≤ max_u64 → (o : Option (Sent Message)) → ((x : Sent Message) → o ≡ Some x → MailIn (n + 1) x) → Stays (Unit {0}) (n + 1) (happening.delivers (enclaves link) j o g)
   delivers_stays j le None x = (now n small link hashes g k (Unit {0}), λ short. u64_number j le)
   delivers_stays j le (Some y) x =
       let mail = x y refl in
-      unless_stays n small link hashes g k (Unit {0}) (is_in g.lost j) (Lost j) (λ g. happening.running (enclaves link) y.to g (happening.hands (enclaves link) j y)) (λ short. u64_number j le)
-      (unless_stays n small link hashes g k (Unit {0}) (not (is_in g.running y.to)) (NotRunning y.to) (happening.hands (enclaves link) j y) (λ short. id_number y.to mail.1)
+      refused_if_stays n small link hashes g k (Unit {0}) (is_in g.lost j) (Lost j) (λ g. happening.running (enclaves link) y.to g (happening.hands (enclaves link) j y)) (λ short. u64_number j le)
+      (refused_if_stays n small link hashes g k (Unit {0}) (not (is_in g.running y.to)) (NotRunning y.to) (happening.hands (enclaves link) j y) (λ short. id_number y.to mail.1)
       (replied_stays n small link hashes (record g { waiting = but j g.waiting })
       (record { field = k.field; mail = k.mail; answers = k.answers; cores = k.cores; running = k.running; waiting = all_filter (λ k. (1 ≤ k) × (k ≤ length g.messages)) (λ k. not (k == j)) g.waiting k.waiting; committed = k.committed })
       (Unit {0}) y.to mail.1 (Peer y.from y.to y.message) (value_at g.field.running y.to) refl mail))
@@ -289,14 +289,14 @@ module _ (n : ℕ) (small : n + 1 ≤ MAX_EVENTS) (link : Link) (hashes : GivesH
   acts_stays : (e : Event) → EventIn e → Stays (IsShort most e) (n + 1) (happening.acts (enclaves link) e g)
   acts_stays (event.Begin margin limit voters) x = (now n small link hashes g k (Unit {0}), tt)
   acts_stays (event.Start zero) x = (now n small link hashes g k (Unit {0}), tt)
-  acts_stays (event.Start (suc r)) x = unless_stays n small link hashes g k (Unit {0}) (is_in g.started (suc r)) (AlreadyStarted (suc r)) (happening.starts (enclaves link) (suc r)) (λ short. id_number (suc r) x) (starts_stays n small link hashes g k (Unit {0}) (suc r) x)
+  acts_stays (event.Start (suc r)) x = refused_if_stays n small link hashes g k (Unit {0}) (is_in g.started (suc r)) (AlreadyStarted (suc r)) (happening.starts (enclaves link) (suc r)) (λ short. id_number (suc r) x) (starts_stays n small link hashes g k (Unit {0}) (suc r) x)
   acts_stays (event.Tick v) x = tells_stays n small link hashes g k (Unit {0}) v x Tick tt
   acts_stays (event.Deliver j) x = delivers_stays j x.1 (numbered g.messages j) (mail_at j)
   acts_stays (event.Lose j) x = loses_stays n small link hashes g k (Unit {0}) j x.1 (numbered g.messages j)
   acts_stays (event.Settle j) x = absurd x
-  acts_stays (event.Crash v) x = unless_stays n small link hashes g k (Unit {0}) (not (is_in g.running v)) (NotRunning v) (happening.crashes (enclaves link) v) (λ short. id_number v x) (crashes_stays n small link hashes g k (Unit {0}) v)
+  acts_stays (event.Crash v) x = refused_if_stays n small link hashes g k (Unit {0}) (not (is_in g.running v)) (NotRunning v) (happening.crashes (enclaves link) v) (λ short. id_number v x) (crashes_stays n small link hashes g k (Unit {0}) v)
   acts_stays (event.Save v) x = tells_stays n small link hashes g k (Unit {0}) v x Save tt
-  acts_stays (event.Roll v j) x = unless_stays n small link hashes g k (Unit {0}) (not (is_in g.running v)) (NotRunning v) (happening.rolls (enclaves link) v j) (λ short. id_number v x.0) (rolls_stays n small link hashes g k (Unit {0}) v j x.0 x.1)
+  acts_stays (event.Roll v j) x = refused_if_stays n small link hashes g k (Unit {0}) (not (is_in g.running v)) (NotRunning v) (happening.rolls (enclaves link) v j) (λ short. id_number v x.0) (rolls_stays n small link hashes g k (Unit {0}) v j x.0 x.1)
   acts_stays (event.Join v r) x = tells_stays n small link hashes g k (Unit {0}) v x.0 (Join r) x.1
   acts_stays (event.Admit v r) x = tells_stays n small link hashes g k (Unit {0}) v x.0 (Admit r) x.1
   acts_stays (event.Remove v r) x = tells_stays n small link hashes g k (Unit {0}) v x.0 (Remove r) x.1

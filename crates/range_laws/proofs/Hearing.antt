@@ -41,7 +41,7 @@ use Rattle.replica_model.specs.Clients.{offset_of, asked, open_entries, on_reque
 use Rattle.replica_model.specs.Heard.{to_peer, accepted_upto, accepted_heard, rejected_heard}
 use Rattle.replica_model.specs.Tables.{parts_of, rows_of, named_by, part_message, taken_with, expects, takes_whole, take_part, part_heard, part_taken, point_taken}
 use Rattle.replica_model.specs.Ticks.{sent_again, all_again, parts_again, leader_tick}
-use Rattle.replica_model.specs.Changes.{first_refusal, log_full, change_pending, voter_count, votes, learner_mark, are_few, join_refusal, admit_refusal, remove_refusal, margin_refusal, unless, joined, join, push_members, with_voter, without_voter, admit, remove, set_margin}
+use Rattle.replica_model.specs.Changes.{first_refusal, log_full, change_pending, voter_count, votes, learner_mark, are_few, join_refusal, admit_refusal, remove_refusal, margin_refusal, refused_or, joined, join, push_members, with_voter, without_voter, admit, remove, set_margin}
 use Rattle.trace_model.specs.TraceLines.{is_u64, is_client_id, refusal_numbers}
 use Rattle.trace_model.specs.Hashing.{GivesHashes}
 pub use Rattle.trace_model.proofs.Numbers.{one_number}
@@ -268,7 +268,7 @@ module _ (m : ℕ) (small : m ≤ MAX_EVENTS) (link : Link) (hashes : GivesHashe
 
     -- ---- changes
     module _ (same : FirstIn s.role s.first) (room : length s.path + 1 ≤ m) where
-      unless_in : (o : Option Refusal) → IfSome o (λ r. IsTrue (list_all is_u64 (refusal_numbers r))) → (c : Call) → (o ≡ None → CallIn m c) → CallIn m (unless s o c)
+      unless_in : (o : Option Refusal) → IfSome o (λ r. IsTrue (list_all is_u64 (refusal_numbers r))) → (c : Call) → (o ≡ None → CallIn m c) → CallIn m (refused_or s o c)
       unless_in (Some r) x c fine = refusing m small link hashes s h same r x
       unless_in None x c fine = fine refl
 

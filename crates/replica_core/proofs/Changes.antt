@@ -106,17 +106,17 @@ module _ (h : Holder) (b : Batch) (s : model.Replica) (st : HoldsFor h s) (empty
   -- a leader refuses
   pub leader-refuses : (m : model.Leading) (refusal : model.Leading → Option Refusal) (change : model.Leading → Call) (why : Refusal)
       → s.role ≡ model.Leader m → refusal m ≡ Some why
-      → Does h (record b { refused = Some why }) Nobody (changes.at_leader s s.role (λ l. changes.unless s (refusal l) (change l)))
+      → Does h (record b { refused = Some why }) Nobody (changes.at_leader s s.role (λ l. changes.refused_or s (refusal l) (change l)))
   leader-refuses m refusal change why is refused =
-      let call : changes.at_leader s s.role (λ l. changes.unless s (refusal l) (change l)) ≡ refuses s why =
-      ap (λ r. changes.at_leader s r (λ l. changes.unless s (refusal l) (change l))) is ∙ ap (λ o. changes.unless s o (change m)) refused in
+      let call : changes.at_leader s s.role (λ l. changes.refused_or s (refusal l) (change l)) ≡ refuses s why =
+      ap (λ r. changes.at_leader s r (λ l. changes.refused_or s (refusal l) (change l))) is ∙ ap (λ o. changes.refused_or s o (change m)) refused in
       subst (Does h (record b { refused = Some why }) Nobody) (sym call) (refuses-does h b s st empty why)
 
 -- or it does not
 pub leader-changes : (s : model.Replica) (m : model.Leading) (refusal : model.Leading → Option Refusal) (change : model.Leading → Call) → s.role ≡ model.Leader m
-    → refusal m ≡ None → changes.at_leader s s.role (λ l. changes.unless s (refusal l) (change l)) ≡ change m
+    → refusal m ≡ None → changes.at_leader s s.role (λ l. changes.refused_or s (refusal l) (change l)) ≡ change m
 leader-changes s m refusal change is none =
-    ap (λ r. changes.at_leader s r (λ l. changes.unless s (refusal l) (change l))) is ∙ ap (λ o. changes.unless s o (change m)) none
+    ap (λ r. changes.at_leader s r (λ l. changes.refused_or s (refusal l) (change l))) is ∙ ap (λ o. changes.refused_or s o (change m)) none
 
 -- the model of one that leads
 pub leading-model : (h : Holder) (s : model.Replica) → HoldsFor h s → (l : Leading) → h.role ≡ kept.Leader l

@@ -11,7 +11,7 @@ use Rattle.replica_model.specs.Folds.{fold_of}
 use Rattle.replica_model.specs.Replica as model
 use Rattle.replica_model.specs.Call.{Call}
 use Rattle.replica_model.specs.Raise.{numbered_from, is_due, outcome_of, commit_to}
-use Rattle.replica_model.specs.Send.{told}
+use Rattle.replica_model.specs.Send.{with_sent}
 use Rattle.replica_log.specs.Window.{IsOrdered, base_index, last_index}
 use Rattle.replica_log.specs.Models.{StandsFor as LogStandsFor}
 use Rattle.replica_core.specs.Logs.{LogsAreTheModels}
@@ -51,7 +51,7 @@ pub record Before (h : Holder) (s : model.Replica) (i : ℕ) : Type 0 where
   pub halted : h.halted ≡ s.halted
 
 module _ (logs : LogsAreTheModels) (h : Holder) (b : Batch) (c : Call) (i : ℕ) (st : Before h c.state i) (o : IsOrdered h.log)
-    (rising : AreTickets c.state.committed h.tickets) (low : base_index h.log ≤ c.state.committed) (is : b ≡ (told c).batch) where
+    (rising : AreTickets c.state.committed h.tickets) (low : base_index h.log ≤ c.state.committed) (is : b ≡ (with_sent c).batch) where
   committed-is : h.log.committed ≡ max c.state.committed i
   committed-is = st.log.is_committed
 

@@ -41,7 +41,7 @@ use Rattle.replica_model.specs.Heard.{to_peer, accepted_upto, accepted_by, accep
 use Rattle.replica_model.specs.Graft.{Offer, Difference, first_difference, points_of, end_of, kept_length, undecided, undecided_at, refusal_hint, following, answered, spliced, replaced, graft, halts, conflict_or_graft, append_heard, matches}
 use Rattle.replica_model.specs.Tables.{parts_of, rows_of, named_by, part_taken, taken_by, sending_heard, sends_next, sending_done, learner_hears, part_heard, part_message}
 use Rattle.replica_model.specs.Clients.{asked, is_busy, request_heard, valid_request, on_request, open_entries, offset_of}
-use Rattle.replica_model.specs.Changes.{unless, at_leader, join, joined, push_members, with_voter, without_voter, admit, remove, set_margin, join_refusal, admit_refusal, remove_refusal, margin_refusal}
+use Rattle.replica_model.specs.Changes.{refused_or, at_leader, join, joined, push_members, with_voter, without_voter, admit, remove, set_margin, join_refusal, admit_refusal, remove_refusal, margin_refusal}
 use Rattle.replica_model.specs.Ticks.{tick}
 use Rattle.replica_core.specs.Due.{ticket_of, tickets_by, IsToldReplaced, AreTold, DueAreTold}
 
@@ -316,9 +316,9 @@ module _ (olds : List Ticket) (since : ℕ) where
           raised-told (record (still (pushed (leads_with s l) (Members c.margin c.voters))) { batch = record empty_batch { members = (length s.path + 1, c.margin, c.voters) ∷ [] } })
           l was (λ t at above. inr (keeps t at))
 
-      unless-told : (o : Option Refusal) (c : Call) → Told c → Told (unless s o c)
-      unless-told None c told = told
-      unless-told (Some refusal) c told = calm s.limit s.path []
+      refused_or-told : (o : Option Refusal) (c : Call) → Told c → Told (refused_or s o c)
+      refused_or-told None c told = told
+      refused_or-told (Some refusal) c told = calm s.limit s.path []
 
       at_leader-told : (r : Role) (change : Leading → Call) → ((l : Leading) → Told (change l)) → Told (at_leader s r change)
       at_leader-told (Learner taking) change told = calm s.limit s.path []
@@ -387,21 +387,21 @@ module _ (link : Link) (s : Replica) (within : (t : Ticket) → Contains s.ticke
   acts_on-told (Client client number bytes) = on_request-told client number (request_of bytes)
   acts_on-told (Join id linked) =
       at_leader-told s.tickets s.committed link s found refl within s.role (λ l. join link s l id linked)
-      (λ l. unless-told s.tickets s.committed link s found refl within (join_refusal s l id linked)
+      (λ l. refused_or-told s.tickets s.committed link s found refl within (join_refusal s l id linked)
       (send_to (still (leads_with s (joined s l id))) id (part_message link s (record { path = take s.committed s.path; part = 0 })))
       (quiet s.tickets s.committed s.limit s.path []))
   acts_on-told (Admit id) =
       at_leader-told s.tickets s.committed link s found refl within s.role (λ l. admit s l id)
-      (λ l. unless-told s.tickets s.committed link s found refl within (admit_refusal s l id)
+      (λ l. refused_or-told s.tickets s.committed link s found refl within (admit_refusal s l id)
       (push_members s (record l { learners = others id l.learners }) (with_voter (newest s) id))
       (changed-told s.tickets s.committed link s found refl within (record l { learners = others id l.learners }) (with_voter (newest s) id)))
   acts_on-told (Remove id) =
       at_leader-told s.tickets s.committed link s found refl within s.role (λ l. remove s l id)
-      (λ l. unless-told s.tickets s.committed link s found refl within (remove_refusal s id) (push_members s l (without_voter (newest s) id))
+      (λ l. refused_or-told s.tickets s.committed link s found refl within (remove_refusal s id) (push_members s l (without_voter (newest s) id))
       (changed-told s.tickets s.committed link s found refl within l (without_voter (newest s) id)))
   acts_on-told (Margin margin) =
       at_leader-told s.tickets s.committed link s found refl within s.role (λ l. set_margin s l margin)
-      (λ l. unless-told s.tickets s.committed link s found refl within (margin_refusal s margin) (push_members s l (record (newest s) { margin = margin }))
+      (λ l. refused_or-told s.tickets s.committed link s found refl within (margin_refusal s margin) (push_members s l (record (newest s) { margin = margin }))
       (changed-told s.tickets s.committed link s found refl within l (record (newest s) { margin = margin })))
 
   acts_halted-told : (i : Input) → Told (tickets_by s i) s.committed (acts_halted s i)

@@ -11,7 +11,7 @@ use Rattle.replica_model.specs.Configs.{conf, conf_index, older_conf}
 use Rattle.replica_model.specs.Message.{Message}
 use Rattle.replica_model.specs.Peers.{newest, is_pending, united, others, voters_counted, peers}
 use Rattle.replica_model.specs.Call.{Call, empty_batch, send_to}
-use Rattle.replica_model.specs.Send.{told}
+use Rattle.replica_model.specs.Send.{with_sent}
 use Rattle.replica_log.specs.Window.{Window, IsOrdered, base_index, last_index, conf_at, conf_index_at, older_conf_at, configs_at}
 use Rattle.replica_log.specs.Models.{StandsFor as LogStandsFor, SameIndices, AreConfigs}
 use Rattle.vote_rules.specs.Elections.{CountsBy}
@@ -127,8 +127,8 @@ peers-model logs h s st o l m like =
     ∙ ap (λ vs. others s.me (united m.learners vs)) (counted-whole logs h.log s st.log o))
 
 -- one message more
-pub sent-more : (b : Batch) (c : Call) (s : model.Replica) (v : ℕ) (m : Message) → b ≡ (told c).batch
-    → record b { sent = b.sent ++ (v, m.msg) ∷ [] } ≡ (told (send_to (record c { state = s }) v m)).batch
+pub sent-more : (b : Batch) (c : Call) (s : model.Replica) (v : ℕ) (m : Message) → b ≡ (with_sent c).batch
+    → record b { sent = b.sent ++ (v, m.msg) ∷ [] } ≡ (with_sent (send_to (record c { state = s }) v m)).batch
 sent-more b c s v m is =
     ap (λ (d : Batch). record d { sent = d.sent ++ (v, m.msg) ∷ [] }) is
     ∙ ap (λ xs. record (c.batch) { sent = xs }) (sym (map-append (λ (x : ℕ × Message). (x.0, x.1.msg)) c.sent ((v, m) ∷ [])))

@@ -23,9 +23,9 @@ use Rattle.replica_model.specs.Linked.{sha_link}
 use Rattle.replica_model.specs.Path.{Path, same_point, end_point}
 use Rattle.replica_model.specs.Replica as model
 use Rattle.replica_model.specs.Call.{Call, empty_batch, refuses}
-use Rattle.replica_model.specs.Call as told_in
+use Rattle.replica_model.specs.Call as model_call
 use Rattle.replica_model.specs.Clients.{offset_of, bad_request, on_request}
-use Rattle.replica_model.specs.Send.{told}
+use Rattle.replica_model.specs.Send.{with_sent}
 use Rattle.replica_model.specs.Step.{with_end, acts_on, step}
 use Rattle.replica_model.specs.Tables.{IsTruePart, point_taken, is_taken, taken_with, expects, with_table, takes_whole, takes, learner_hears}
 use Rattle.replica_log.specs.Window.{summary_of}
@@ -61,7 +61,7 @@ summed-part part names s true_part path first base promised committed =
 module _ (l : Learner) (b : Batch) (empty : b ≡ empty_batch) (me term : ℕ) (is_me : l.me ≡ me) (is_term : l.term ≡ term) (taking : model.Taking) (from : ℕ) where
   -- it waits for the part that it expects then
   pub waits : (t : model.Taking) (point : Point) (next : ℕ) → TakesPartsOf sha_link l.taking t → point ≡ point_taken sha_link t → next ≡ t.next
-      → LearnsOrHolds l None (expecting b from l.term point next) (told (with_end sha_link (expects sha_link (learning me term t) from t)))
+      → LearnsOrHolds l None (expecting b from l.term point next) (with_sent (with_end sha_link (expects sha_link (learning me term t) from t)))
   waits t point next parts is_point is_next = (
     record {
       taking = t;
@@ -78,7 +78,7 @@ module _ (l : Learner) (b : Batch) (empty : b ≡ empty_batch) (me term : ℕ) (
   pub holds : (part : TablePart) (names : model.Named) (limit : ℕ) (table : RecordTable) (h : Holder) → IsTruePart sha_link part names → table ≡ fold_of limit names.path
       → h ≡ holder_at l from part table → ((s : model.Replica) → IsSummedUp sha_link s (summary_in part) → LogStandsFor sha_link h.log s)
       → LearnsOrHolds l (Some h) (expecting (record b { taken = Some part.point }) from l.term part.point part.parts)
-      (told (with_end sha_link (takes_whole sha_link (learning me term taking) from part names limit)))
+      (with_sent (with_end sha_link (takes_whole sha_link (learning me term taking) from part names limit)))
   holds part names limit table h true_part is_table is log =
       let p : Path = names.path in
       let n : ℕ = length p in
@@ -143,57 +143,57 @@ module _ (l : Learner) (b : Batch) (empty : b ≡ empty_batch) (me before term :
   waiting_on = expects sha_link (learning me (max before term) with_part) from with_part
 
   pub hears-other : (point : Point) (next : ℕ) → TakesAs sha_link taking part names l.taking (Other point next)
-      → LearnsOrHolds l None (expecting b from l.term point next) (told (with_end sha_link hearing))
+      → LearnsOrHolds l None (expecting b from l.term point next) (with_sent (with_end sha_link hearing))
   hears-other point next takes_as = by (is_taken sha_link taking part) refl
     where
-      by : (taken : Bool) → is_taken sha_link taking part ≡ taken → LearnsOrHolds l None (expecting b from l.term point next) (told (with_end sha_link hearing))
+      by : (taken : Bool) → is_taken sha_link taking part ≡ taken → LearnsOrHolds l None (expecting b from l.term point next) (with_sent (with_end sha_link hearing))
       by false is =
           let other = takes_as.other is in
           let same : Other point next ≡ Other (point_taken sha_link taking) taking.next = other.0 in
           let is_point : point ≡ point_taken sha_link taking = cc in
           let is_next : next ≡ taking.next = cc in
-          subst (λ k. LearnsOrHolds l None (expecting b from l.term point next) (told (with_end sha_link k))) (sym (cond-false (is_taken sha_link taking part) after_part waiting is))
+          subst (λ k. LearnsOrHolds l None (expecting b from l.term point next) (with_sent (with_end sha_link k))) (sym (cond-false (is_taken sha_link taking part) after_part waiting is))
           (waits l b empty me (max before term) is_me is_term taking from taking point next other.1 is_point is_next)
       by true is = by_last (part.part + 1 == part.parts) refl
         where
-          by_last : (last : Bool) → (part.part + 1 == part.parts) ≡ last → LearnsOrHolds l None (expecting b from l.term point next) (told (with_end sha_link hearing))
+          by_last : (last : Bool) → (part.part + 1 == part.parts) ≡ last → LearnsOrHolds l None (expecting b from l.term point next) (with_sent (with_end sha_link hearing))
           by_last true e = absurd (let k : Other point next ≡ Whole (fold_of with_part.names.limit names.path) = (takes_as.whole is e).0 in cc)
           by_last false e = absurd (let k : Other point next ≡ Taken (part.part + 1) = (takes_as.taken is e).0 in cc)
 
   pub hears-taken : (next : ℕ) → GoesOn sha_link taking part names → TakesAs sha_link taking part names l.taking (Taken next)
-      → LearnsOrHolds l None (expecting b from l.term part.point next) (told (with_end sha_link hearing))
+      → LearnsOrHolds l None (expecting b from l.term part.point next) (with_sent (with_end sha_link hearing))
   hears-taken next goes_on takes_as = by (is_taken sha_link taking part) refl
     where
-      by : (taken : Bool) → is_taken sha_link taking part ≡ taken → LearnsOrHolds l None (expecting b from l.term part.point next) (told (with_end sha_link hearing))
+      by : (taken : Bool) → is_taken sha_link taking part ≡ taken → LearnsOrHolds l None (expecting b from l.term part.point next) (with_sent (with_end sha_link hearing))
       by false is = absurd (let k : Taken next ≡ Other (point_taken sha_link taking) taking.next = (takes_as.other is).0 in cc)
       by true is = by_last (part.part + 1 == part.parts) refl
         where
-          by_last : (last : Bool) → (part.part + 1 == part.parts) ≡ last → LearnsOrHolds l None (expecting b from l.term part.point next) (told (with_end sha_link hearing))
+          by_last : (last : Bool) → (part.part + 1 == part.parts) ≡ last → LearnsOrHolds l None (expecting b from l.term part.point next) (with_sent (with_end sha_link hearing))
           by_last true e = absurd (let k : Taken next ≡ Whole (fold_of with_part.names.limit names.path) = (takes_as.whole is e).0 in cc)
           by_last false e =
               let taken = takes_as.taken is e in
               let same : Taken next ≡ Taken (part.part + 1) = taken.0 in
-              subst (λ k. LearnsOrHolds l None (expecting b from l.term part.point next) (told (with_end sha_link k)))
+              subst (λ k. LearnsOrHolds l None (expecting b from l.term part.point next) (with_sent (with_end sha_link k)))
               (sym (cond-true (is_taken sha_link taking part) after_part waiting is ∙ cond-false (part.part + 1 == part.parts) whole waiting_on e))
               (waits l b empty me (max before term) is_me is_term taking from with_part part.point next taken.1 (taken-point taking part names true_part goes_on is) cc)
 
   pub hears-whole : (table : RecordTable) (h : Holder) → TakesAs sha_link taking part names l.taking (Whole table)
       → h ≡ holder_at l from part table → ((s : model.Replica) → IsSummedUp sha_link s (summary_in part) → LogStandsFor sha_link h.log s)
-      → LearnsOrHolds l (Some h) (expecting (record b { taken = Some part.point }) from l.term part.point part.parts) (told (with_end sha_link hearing))
+      → LearnsOrHolds l (Some h) (expecting (record b { taken = Some part.point }) from l.term part.point part.parts) (with_sent (with_end sha_link hearing))
   hears-whole table h takes_as is_holder log = by (is_taken sha_link taking part) refl
     where
       by : (taken : Bool) → is_taken sha_link taking part ≡ taken
-          → LearnsOrHolds l (Some h) (expecting (record b { taken = Some part.point }) from l.term part.point part.parts) (told (with_end sha_link hearing))
+          → LearnsOrHolds l (Some h) (expecting (record b { taken = Some part.point }) from l.term part.point part.parts) (with_sent (with_end sha_link hearing))
       by false is = absurd (let k : Whole table ≡ Other (point_taken sha_link taking) taking.next = (takes_as.other is).0 in cc)
       by true is = by_last (part.part + 1 == part.parts) refl
         where
           by_last : (last : Bool) → (part.part + 1 == part.parts) ≡ last
-              → LearnsOrHolds l (Some h) (expecting (record b { taken = Some part.point }) from l.term part.point part.parts) (told (with_end sha_link hearing))
+              → LearnsOrHolds l (Some h) (expecting (record b { taken = Some part.point }) from l.term part.point part.parts) (with_sent (with_end sha_link hearing))
           by_last false e = absurd (let k : Whole table ≡ Taken (part.part + 1) = (takes_as.taken is e).0 in cc)
           by_last true e =
               let same : Whole table ≡ Whole (fold_of with_part.names.limit names.path) = (takes_as.whole is e).0 in
               let is_table : table ≡ fold_of with_part.names.limit names.path = cc in
-              subst (λ k. LearnsOrHolds l (Some h) (expecting (record b { taken = Some part.point }) from l.term part.point part.parts) (told (with_end sha_link k)))
+              subst (λ k. LearnsOrHolds l (Some h) (expecting (record b { taken = Some part.point }) from l.term part.point part.parts) (with_sent (with_end sha_link k)))
               (sym (cond-true (is_taken sha_link taking part) after_part waiting is ∙ cond-true (part.part + 1 == part.parts) whole waiting_on e))
               (holds l b empty me (max before term) is_me is_term taking from part names with_part.names.limit table h true_part is_table is_holder log)
 
@@ -204,11 +204,11 @@ module _ (l : Learner) (taking : model.Taking) (parts : TakesPartsOf sha_link l.
   now = learning l.me l.term taking
 
   -- it does nothing
-  pub ticks-still : LearnsOrHolds l None b (step sha_link now told_in.Tick)
+  pub ticks-still : LearnsOrHolds l None b (step sha_link now model_call.Tick)
   ticks-still = (record { taking = taking; parts = parts; same = refl }, empty)
 
   pub hears-still : (from : ℕ) (msg : PeerMsg) (names : model.Named) → ((term : ℕ) (part : TablePart) → msg ≡ Part term part → ⊥)
-      → LearnsOrHolds l None b (step sha_link now (told_in.Peer from (record { msg = msg; names = names })))
+      → LearnsOrHolds l None b (step sha_link now (model_call.Peer from (record { msg = msg; names = names })))
   hears-still from (AskVote term last_index last_term) names not_part = (record { taking = taking; parts = parts; same = refl }, empty)
   hears-still from (Vote term granted) names not_part = (record { taking = taking; parts = parts; same = refl }, empty)
   hears-still from (Append term prev entries promise commit) names not_part = (record { taking = taking; parts = parts; same = refl }, empty)
@@ -219,22 +219,22 @@ module _ (l : Learner) (taking : model.Taking) (parts : TakesPartsOf sha_link l.
 
   -- it answers that it does not lead
   asked-fault : (client : ClientId) (number : ℕ) (bytes : List ℕ) (fault : RequestFault) → request_of bytes ≡ Err fault
-      → LearnsOrHolds l None (fault_answered b client number fault) (told (with_end sha_link (bad_request now client number fault)))
+      → LearnsOrHolds l None (fault_answered b client number fault) (with_sent (with_end sha_link (bad_request now client number fault)))
   asked-fault client number bytes faults.Memory is = (record { taking = taking; parts = parts; same = refl }, empty)
   asked-fault client number bytes (faults.Wire fault) is = (record { taking = taking; parts = parts; same = refl }, ap (λ d. answered d client number (Malformed (offset_of fault))) empty)
   asked-fault client number bytes faults.Nothing is = (record { taking = taking; parts = parts; same = refl }, ap (λ d. answered d client number (Invalid Nothing 0)) empty)
   asked-fault client number bytes (faults.Size part size) is = (record { taking = taking; parts = parts; same = refl }, ap (λ d. answered d client number (Invalid part size)) empty)
 
   asked-by : (client : ClientId) (number : ℕ) (bytes : List ℕ) (r : Result Request RequestFault) → request_of bytes ≡ r
-      → LearnsOrHolds l None (unled b client number r) (told (with_end sha_link (on_request now client number r)))
+      → LearnsOrHolds l None (unled b client number r) (with_sent (with_end sha_link (on_request now client number r)))
   asked-by client number bytes (Ok request) is = (record { taking = taking; parts = parts; same = refl }, ap (λ d. answered d client number (NotLeader 0)) empty)
   asked-by client number bytes (Err fault) is = asked-fault client number bytes fault is
 
-  pub asked-learner : (client : ClientId) (number : ℕ) (bytes : List ℕ) → LearnsOrHolds l None (unled b client number (request_of bytes)) (step sha_link now (told_in.Client client number bytes))
+  pub asked-learner : (client : ClientId) (number : ℕ) (bytes : List ℕ) → LearnsOrHolds l None (unled b client number (request_of bytes)) (step sha_link now (model_call.Client client number bytes))
   asked-learner client number bytes = asked-by client number bytes (request_of bytes) refl
 
   -- it refuses a change of the members
-  pub refuses-change : (i : told_in.Input) → told (with_end sha_link (acts_on sha_link now i)) ≡ told (with_end sha_link (refuses now (member.NotLeader 0)))
+  pub refuses-change : (i : model_call.Input) → with_sent (with_end sha_link (acts_on sha_link now i)) ≡ with_sent (with_end sha_link (refuses now (member.NotLeader 0)))
       → LearnsOrHolds l None (record b { refused = Some (member.NotLeader 0) }) (step sha_link now i)
   refuses-change i is =
       subst (LearnsOrHolds l None (record b { refused = Some (member.NotLeader 0) })) (sym is)
@@ -253,13 +253,13 @@ unled-none b b' client number (Err fault) read = ap (λ (x : Option Request × B
 
 -- ---- a part, as an input
 
-pub record HearsPart (l : Learner) (s : model.Replica) (st : LearnsFor l s) (i : told_in.Input) (from term : ℕ) (part : TablePart) : Type 0 where
+pub record HearsPart (l : Learner) (s : model.Replica) (st : LearnsFor l s) (i : model_call.Input) (from term : ℕ) (part : TablePart) : Type 0 where
   pub names : model.Named
   pub true_part : IsTruePart sha_link part names
   pub goes_on : GoesOn sha_link st.taking part names
-  pub call : step sha_link s i ≡ told (with_end sha_link (learner_hears sha_link s st.taking from names (Part term part)))
+  pub call : step sha_link s i ≡ with_sent (with_end sha_link (learner_hears sha_link s st.taking from names (Part term part)))
 
-pub hears-part : (l : Learner) (s : model.Replica) (st : LearnsFor l s) (i : told_in.Input) (from term : ℕ) (part : TablePart) → IsInput s (input.Peer from (Part term part)) i
+pub hears-part : (l : Learner) (s : model.Replica) (st : LearnsFor l s) (i : model_call.Input) (from term : ℕ) (part : TablePart) → IsInput s (input.Peer from (Part term part)) i
     → HearsPart l s st i from term part
 hears-part l s st i from term part given =
     let r : model.Replica = learning l.me l.term st.taking in
@@ -270,6 +270,6 @@ hears-part l s st i from term part given =
       goes_on = named.1;
       call =
           ap (step sha_link s) given.1.1
-          ∙ (ap (λ x. step sha_link x (told_in.Peer from (record { msg = Part term part; names = given.0 }))) st.same
-          ∙ ap (λ x. told (with_end sha_link (learner_hears sha_link x st.taking from given.0 (Part term part)))) (sym st.same));
+          ∙ (ap (λ x. step sha_link x (model_call.Peer from (record { msg = Part term part; names = given.0 }))) st.same
+          ∙ ap (λ x. with_sent (with_end sha_link (learner_hears sha_link x st.taking from given.0 (Part term part)))) (sym st.same));
     }

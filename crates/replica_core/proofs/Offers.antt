@@ -17,7 +17,7 @@ use Rattle.replica_model.specs.Replica as model
 use Rattle.replica_model.specs.Message.{Message, plain}
 use Rattle.replica_model.specs.Call.{Call, empty_batch, still, says}
 use Rattle.replica_model.specs.Raise.{numbered_from, commit_to}
-use Rattle.replica_model.specs.Send.{told}
+use Rattle.replica_model.specs.Send.{with_sent}
 use Rattle.replica_model.specs.Graft.{Offer, Difference, end_of, first_difference, points_of, refusal_hint, halts, following, kept_length, added, members_of, undecided_at, undecided, spliced, replaced, grafted, accepts, answered, graft, conflict_or_graft, append_heard}
 use Rattle.replica_log.specs.Window.{Window, IsOrdered, base_index, last_index}
 use Rattle.replica_log.specs.Models.{StandsFor as LogStandsFor, IsNoConflict}
@@ -339,7 +339,7 @@ module _ (logs : LogsAreTheModels) (h : Holder) (s : model.Replica) (st : HoldsF
               stands = end.stands;
               batch_is =
                   ap (λ (d : Batch). record d { sent = d.sent ++ (o.from, reply) ∷ [] }) end.batch_is
-                  ∙ ap (λ xs. record ((told (commit_to spliced_call upto)).batch) { sent = xs }) (sym (ap msgs sent));
+                  ∙ ap (λ xs. record ((with_sent (commit_to spliced_call upto)).batch) { sent = xs }) (sym (ap msgs sent));
             };
             sends = refl;
           }

@@ -5,7 +5,7 @@ use Rattle.values.specs.declared.memory.Memory.{Memory}
 use Rattle.replica_model.specs.Replica as model
 use Rattle.replica_model.specs.Peers.{peers, progress_of, with_progress}
 use Rattle.replica_model.specs.Call.{Call}
-use Rattle.replica_model.specs.Send.{told, can_append, sent_on, append_from}
+use Rattle.replica_model.specs.Send.{with_sent, can_append, sent_on, append_from}
 use Rattle.replica_model.specs.Linked.{sha_link}
 use Rattle.replica_core.specs.declared.role.Leading.{Leading}
 use Rattle.replica_core.specs.declared.send.Appends.{Appends}
@@ -22,7 +22,7 @@ SendsTo Everyone c = (l : model.Leading) × ((c.state.role ≡ model.Leader l) �
 -- a replica and a batch stand for a call of the model: the replica for its state, and the batch is its batch
 pub record Reaches (h : Holder) (batch : Batch) (c : Call) : Type 0 where
   pub stands : HoldsFor h c.state
-  pub batch_is : batch ≡ (told c).batch
+  pub batch_is : batch ≡ (with_sent c).batch
 
 -- so do they before the end of the call, and the same are to be sent an append
 pub record Does (h : Holder) (batch : Batch) (to : Appends) (c : Call) : Type 0 where

@@ -6,7 +6,7 @@ use Rattle.group_quorum.specs.Voters.{IsId}
 use Rattle.group_msgs.specs.Ranges.{IsInRange}
 use Rattle.replica_model.specs.Replica as model
 use Rattle.replica_model.specs.Linked.{sha_link}
-use Rattle.replica_model.specs.Call as told
+use Rattle.replica_model.specs.Call as model_call
 use Rattle.replica_model.specs.Tables.{IsTruePart}
 use Rattle.table_transfer.specs.Taken.{GoesOn}
 use Rattle.replica_core.specs.declared.input.Input.{Input}
@@ -19,15 +19,15 @@ IsNamed (model.Learner taking) (Part term part) names = IsTruePart sha_link part
 IsNamed _ _ names = Unit {0}
 
 -- the input is what the model replica is told
-abbrev pub IsInput : model.Replica → Input → told.Input → Type 0
-IsInput s input.Tick i = i ≡ told.Tick
+abbrev pub IsInput : model.Replica → Input → model_call.Input → Type 0
+IsInput s input.Tick i = i ≡ model_call.Tick
 IsInput s (input.Peer from msg) i =
-    (names : model.Named) × (IsNamed s.role msg names × (i ≡ told.Peer from (record { msg = msg; names = names })))
-IsInput s (input.Client client number request) i = i ≡ told.Client client number request.now
-IsInput s (input.Join id linked) i = i ≡ told.Join id linked
-IsInput s (input.Admit id) i = i ≡ told.Admit id
-IsInput s (input.Remove id) i = i ≡ told.Remove id
-IsInput s (input.Margin margin) i = i ≡ told.Margin margin
+    (names : model.Named) × (IsNamed s.role msg names × (i ≡ model_call.Peer from (record { msg = msg; names = names })))
+IsInput s (input.Client client number request) i = i ≡ model_call.Client client number request.now
+IsInput s (input.Join id linked) i = i ≡ model_call.Join id linked
+IsInput s (input.Admit id) i = i ≡ model_call.Admit id
+IsInput s (input.Remove id) i = i ≡ model_call.Remove id
+IsInput s (input.Margin margin) i = i ≡ model_call.Margin margin
 
 -- ids are from 1 to 65,535, a margin is at most 15, and a message is in its ranges
 abbrev pub IsInputInRange : Input → Type 0

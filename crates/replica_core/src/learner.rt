@@ -7,9 +7,9 @@ ghost use Rattle.group_quorum.specs.Voters.{IsId};
 ghost use Rattle.group_msgs.specs.Ranges.{IsPartInRange};
 ghost use Rattle.replica_model.specs.Linked.{sha_link};
 ghost use Rattle.replica_model.specs.Replica as model;
-ghost use Rattle.replica_model.specs.Call as told;
+ghost use Rattle.replica_model.specs.Call as model_call;
 ghost use Rattle.replica_model.specs.Call.{empty_batch};
-ghost use Rattle.replica_model.specs.Send.{told as told_of};
+ghost use Rattle.replica_model.specs.Send.{with_sent};
 ghost use Rattle.replica_model.specs.Step.{step, with_end};
 ghost use Rattle.replica_model.specs.Tables.{IsTruePart, learner_hears};
 ghost use Rattle.replica_log.specs.Models.{IsSummedUp, StandsFor as LogStandsFor};
@@ -51,7 +51,7 @@ impl Learner {
         requires empty { batch.old ≡ empty_batch }
         ensures sound { OnOk result (self.new.term ≤ TOP) }
         ensures holder { IfOk result (λ found. IfSome found IsSound) }
-        ensures model { (s : model.Replica) (i : told.Input) → LearnsFor self.old s → IsInput s input.now i
+        ensures model { (s : model.Replica) (i : model_call.Input) → LearnsFor self.old s → IsInput s input.now i
             → IfOk result (λ found. LearnsOrHolds self.new found batch.new (step sha_link s i)) }
         ensures in_range { IsLearnerInRange self.old → IsStepBatch batch.old
             → IfOk result (λ found. IsLearnerInRange self.new × (IfSome found IsHolderInRange × IsStepBatch batch.new)) }
@@ -116,7 +116,7 @@ impl Learner {
             → s ≡ record (model.learner self.old.me) { term = self.old.term; role = model.Learner taking }
             → TakesPartsOf sha_link self.old.taking taking → IsTruePart sha_link part.now names → GoesOn sha_link taking part.now names
             → IfOk result (λ found. LearnsOrHolds self.new found batch.new
-            (told_of (with_end sha_link (learner_hears sha_link s taking from names (Part term part.now))))) }
+            (with_sent (with_end sha_link (learner_hears sha_link s taking from names (Part term part.now))))) }
         ensures in_range { IsId from → IsLearnerInRange self.old → IsStepBatch batch.old
             → IfOk result (λ found. IsLearnerInRange self.new × (IfSome found IsHolderInRange × IsStepBatch batch.new)) }
     {

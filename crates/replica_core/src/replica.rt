@@ -4,7 +4,7 @@ ghost use Rattle.group_quorum.specs.Voters.{IsId};
 ghost use Rattle.values.specs.declared.limits.TheConstants.{MOST_ROWS};
 ghost use Rattle.replica_model.specs.Linked.{sha_link};
 ghost use Rattle.replica_model.specs.Replica as model;
-ghost use Rattle.replica_model.specs.Call as told;
+ghost use Rattle.replica_model.specs.Call as model_call;
 ghost use Rattle.replica_model.specs.Call.{empty_batch};
 ghost use Rattle.replica_model.specs.Step.{step};
 ghost use Rattle.replica_core.specs.Standing.{StandsFor, IsSpent, HoldsLog};
@@ -107,11 +107,11 @@ impl Replica {
     pub fn step(&mut self, input: &Input<'_>, batch: &mut Batch) -> Result<(), StepFault>
         requires range { IsInputInRange input.now }
         requires empty { batch.old ≡ empty_batch }
-        ensures model { (s : model.Replica) (i : told.Input) → StandsFor self.old s → IsInput s input.now i
+        ensures model { (s : model.Replica) (i : model_call.Input) → StandsFor self.old s → IsInput s input.now i
             → OnOk result (StandsFor self.new (step sha_link s i).state × (batch.new ≡ (step sha_link s i).batch)) }
-        ensures greatest { (s : model.Replica) (i : told.Input) → StandsFor self.old s → IsInput s input.now i
+        ensures greatest { (s : model.Replica) (i : model_call.Input) → StandsFor self.old s → IsInput s input.now i
             → OnOk result (IsRaised s (step sha_link s i) self.new batch.new) }
-        ensures due { (s : model.Replica) (i : told.Input) → StandsFor self.old s → IsInput s input.now i
+        ensures due { (s : model.Replica) (i : model_call.Input) → StandsFor self.old s → IsInput s input.now i
             → OnOk result (DueAreTold s i (step sha_link s i) batch.new) }
         ensures in_range { OnOk result (IsBatchInRange batch.new) }
         ensures unsaved { OnOk result (batch.new.saved ≡ None) }
@@ -169,7 +169,7 @@ impl State {
         requires range { IsInputInRange input.now }
         requires empty { batch.old ≡ empty_batch }
         ensures sound { OnOk result (IsSoundState self.new) }
-        ensures model { (s : model.Replica) (i : told.Input) → StandsFor self.old s → IsInput s input.now i
+        ensures model { (s : model.Replica) (i : model_call.Input) → StandsFor self.old s → IsInput s input.now i
             → OnOk result (StandsFor self.new (step sha_link s i).state × (batch.new ≡ (step sha_link s i).batch)) }
         ensures in_range { IsStateInRange self.old → IsStepBatch batch.old
             → OnOk result (IsStateInRange self.new × IsStepBatch batch.new) }

@@ -5,7 +5,7 @@ ghost use Rattle.replica_model.specs.Term.{higher_term};
 ghost use Rattle.values.specs.Terms.{term_of};
 ghost use Rattle.replica_model.specs.Linked.{sha_link};
 ghost use Rattle.replica_model.specs.Replica as model;
-ghost use Rattle.replica_model.specs.Call as told;
+ghost use Rattle.replica_model.specs.Call as model_call;
 ghost use Rattle.replica_model.specs.Call.{empty_batch};
 ghost use Rattle.replica_model.specs.Step.{hears, hears_older, holder_hears, acts, acts_on, acts_halted, step};
 ghost use Rattle.group_quorum.specs.Voters.{IsId};
@@ -32,7 +32,7 @@ impl Holder {
         requires range { IsInputInRange input.now }
         requires empty { batch.old ≡ empty_batch }
         ensures sound { OnOk result (IsSound self.new) }
-        ensures model { (s : model.Replica) (i : told.Input) → HoldsFor self.old s → IsInput s input.now i
+        ensures model { (s : model.Replica) (i : model_call.Input) → HoldsFor self.old s → IsInput s input.now i
             → OnOk result (HoldsFor self.new (step sha_link s i).state × (batch.new ≡ (step sha_link s i).batch)) }
         ensures in_range { KeepsRange self.old batch.old result self.new batch.new }
     {
@@ -49,7 +49,7 @@ impl Holder {
         requires range { IsInputInRange input.now }
         requires empty { batch.old ≡ empty_batch }
         ensures sound { OnOk result (IsSound self.new) }
-        ensures model { (s : model.Replica) (i : told.Input) → HoldsFor self.old s → IsInput s input.now i
+        ensures model { (s : model.Replica) (i : model_call.Input) → HoldsFor self.old s → IsInput s input.now i
             → IfOk result (λ to. Does self.new batch.new to (acts sha_link s s.halted i)) }
         ensures in_range { ActsInRange self.old batch.old result self.new batch.new }
     {
@@ -66,7 +66,7 @@ impl Holder {
         requires range { IsInputInRange input.now }
         requires empty { batch.old ≡ empty_batch }
         ensures sound { OnOk result (IsSound self.new) }
-        ensures model { (s : model.Replica) (i : told.Input) → HoldsFor self.old s → IsInput s input.now i
+        ensures model { (s : model.Replica) (i : model_call.Input) → HoldsFor self.old s → IsInput s input.now i
             → IfOk result (λ to. Does self.new batch.new to (acts_on sha_link s i)) }
         ensures in_range { ActsInRange self.old batch.old result self.new batch.new }
     {
@@ -97,7 +97,7 @@ impl Holder {
         requires sound { IsSound self.old }
         requires empty { batch.old ≡ empty_batch }
         ensures sound { OnOk result (IsSound self.new) }
-        ensures model { (s : model.Replica) (i : told.Input) → HoldsFor self.old s → IsInput s input.now i
+        ensures model { (s : model.Replica) (i : model_call.Input) → HoldsFor self.old s → IsInput s input.now i
             → IfOk result (λ to. Does self.new batch.new to (acts_halted s i)) }
         ensures in_range { ActsInRange self.old batch.old result self.new batch.new }
     {

@@ -19,7 +19,7 @@ use Rattle.replica_model.specs.Path.{Link, end_point, same_point}
 use Rattle.replica_model.specs.Replica.{Named, Sending, Taking, Role, Learner, Follower, Candidate, Leader, Leading, Replica}
 use Rattle.replica_model.specs.Message.{Message}
 use Rattle.replica_model.specs.Peers.{leads_with, progress_of, is_peer, is_voter, newest, others, with_progress}
-use Rattle.replica_model.specs.Call as told_of
+use Rattle.replica_model.specs.Call as model_call
 use Rattle.replica_model.specs.Call.{Call, still, moment}
 use Rattle.replica_model.specs.Raise.{raise, raise_and_send, to_every_peer, pushed}
 use Rattle.values.specs.Terms.{term_of}
@@ -29,9 +29,9 @@ use Rattle.replica_model.specs.Graft.{Difference, Offer, append_heard, conflict_
 use Rattle.replica_model.specs.Heard.{accepted_heard, accepted_by, rejected_heard, rejected_by, sent_from, to_peer, accepted_upto}
 use Rattle.replica_model.specs.Tables.{learner_hears, takes, takes_whole, expects, part_heard, part_taken, taken_by, sending_heard, sending_done, sends_next, is_taken, named_by, part_message, parts_of, rows_of, taken_with}
 use Rattle.replica_model.specs.Clients.{client_request, on_request, valid_request, request_heard, asked, is_busy, open_entries}
-use Rattle.replica_model.specs.Changes.{unless, at_leader, join, admit, remove, set_margin, push_members, admit_refusal, join_refusal, joined, margin_refusal, remove_refusal, with_voter, without_voter}
+use Rattle.replica_model.specs.Changes.{refused_or, at_leader, join, admit, remove, set_margin, push_members, admit_refusal, join_refusal, joined, margin_refusal, remove_refusal, with_voter, without_voter}
 use Rattle.replica_model.specs.Ticks.{tick}
-use Rattle.replica_model.specs.Send.{send_append, send_appends, can_append, appended_to, stepped_down, concluded, ended, told, base_moved}
+use Rattle.replica_model.specs.Send.{send_append, send_appends, can_append, appended_to, stepped_down, concluded, ended, with_sent, base_moved}
 use Rattle.replica_model.specs.Step.{hears, hears_older, holder_hears, peer_hears, acts_on, acts, with_end, step}
 use Rattle.replica_model.specs.Keyed.{value_at, without}
 use Rattle.group_quorum.specs.Voters.{is_in}
@@ -117,15 +117,15 @@ module _ (s : Replica) (P : Call → Type 0) (w : Ways s P) where
 
     wins : (a : Replica) → Same s a → P (win a)
     wins a same = raises-and-sends (record (still (pushed (led a (leading_anew a)) Noop)) {
-      batch = record told_of.empty_batch { lead = Some a.term };
+      batch = record model_call.empty_batch { lead = Some a.term };
     }) (leading_anew a) refl refl (unmade a same)
 
     asked-vote : (from index term : ℕ) → P (vote_asked t from index term)
     asked-vote from index term =
         cond_both ((t.vote == 0 || t.vote == from) && as_new t.path index term)
-        (told_of.says (record t { vote = from }) from (msg.Vote t.term true)) (told_of.says t from (msg.Vote t.term false)) P
-        (λ so. stays (told_of.says (record t { vote = from }) from (msg.Vote t.term true)) refl at)
-        (λ not_so. stays (told_of.says t from (msg.Vote t.term false)) refl at)
+        (model_call.says (record t { vote = from }) from (msg.Vote t.term true)) (model_call.says t from (msg.Vote t.term false)) P
+        (λ so. stays (model_call.says (record t { vote = from }) from (msg.Vote t.term true)) refl at)
+        (λ not_so. stays (model_call.says t from (msg.Vote t.term false)) refl at)
 
     counts : (ids : List ℕ) → P (counted t ids)
     counts ids =
@@ -191,8 +191,8 @@ module _ (s : Replica) (P : Call → Type 0) (w : Ways s P) where
 
     hears-part : (link : Link) (from : ℕ) (part : TablePart) → P (part_heard link t from part)
     hears-part link from part =
-        let yes : Call = told_of.says t from (msg.PartTaken t.term part.point part.parts) in
-        let no : Call = told_of.says t from (msg.Rejected t.term part.point.index (cond (nat_lt (length t.path) part.point.index) (length t.path) t.promised)) in
+        let yes : Call = model_call.says t from (msg.PartTaken t.term part.point part.parts) in
+        let no : Call = model_call.says t from (msg.Rejected t.term part.point.index (cond (nat_lt (length t.path) part.point.index) (length t.path) t.promised)) in
         cond_both (matches link t part.point) yes no P (λ so. stays yes refl at) (λ not_so. stays no refl at)
 
     hears-taken : (link : Link) (r : Role) (from : ℕ) (point : Point) (next : ℕ) → P (part_taken link t r from point next)
@@ -229,7 +229,7 @@ module _ (s : Replica) (P : Call → Type 0) (w : Ways s P) where
     hears-own link from (msg.PartTaken term point next) = hears-taken link t.role from point next
 
     hears-old : (link : Link) (from : ℕ) (m : PeerMsg) → P (hears_older link t from m)
-    hears-old link from (msg.AskVote term last_index last_term) = stays (told_of.says t from (msg.Vote t.term false)) refl at
+    hears-old link from (msg.AskVote term last_index last_term) = stays (model_call.says t from (msg.Vote t.term false)) refl at
     hears-old link from (msg.Vote term granted) = stilled
     hears-old link from (msg.Append term prev entries promise commit) = stays (stale_append t from prev.index) refl at
     hears-old link from (msg.Accepted term end promised) = stilled
@@ -295,7 +295,7 @@ module _ (s : Replica) (P : Call → Type 0) (w : Ways s P) where
   requested Follower client number request = stays (request_heard s Follower client number request) refl here
   requested (Candidate votes) client number request = stays (request_heard s (Candidate votes) client number request) refl here
   requested (Leader l) client number request =
-      let busy : Call = told_of.answers s client number (Busy (open_entries s)) in
+      let busy : Call = model_call.answers s client number (Busy (open_entries s)) in
       let c : Call = still (asked s client number request) in
       cond_both (is_busy s) busy (raise_and_send c l) P
       (λ so. stays busy refl here) (λ not_so. raises-and-sends c l refl refl (refl, refl, (record { index = length s.path + 1; client = client; number = number; request = request } ∷ [], refl)))
@@ -314,14 +314,14 @@ module _ (s : Replica) (P : Call → Type 0) (w : Ways s P) where
       by_request (Err faults.Nothing) = stays (on_request s client number (Err faults.Nothing)) refl here
       by_request (Err (faults.Size part size)) = stays (on_request s client number (Err (faults.Size part size))) refl here
 
-  changed : (refusal : Option Refusal) (c : Call) → P c → P (unless s refusal c)
-  changed (Some refusal) c done = stays (unless s (Some refusal) c) refl here
+  changed : (refusal : Option Refusal) (c : Call) → P c → P (refused_or s refusal c)
+  changed (Some refusal) c done = stays (refused_or s (Some refusal) c) refl here
   changed None c done = done
 
   pushes : (l : Leading) (c : Conf) → P (push_members s l c)
   pushes l c =
       raises-and-sends (record (still (pushed (leads_with s l) (Members c.margin c.voters))) {
-        batch = record told_of.empty_batch { members = (length s.path + 1, c.margin, c.voters) ∷ [] };
+        batch = record model_call.empty_batch { members = (length s.path + 1, c.margin, c.voters) ∷ [] };
       }) l refl refl (unmade s here)
 
   if-leading : (r : Role) (change : Leading → Call) → ((l : Leading) → P (change l)) → P (at_leader s r change)
@@ -332,34 +332,34 @@ module _ (s : Replica) (P : Call → Type 0) (w : Ways s P) where
 
   -- ---- a call, and its end
 
-  acted : (link : Link) (i : told_of.Input) → P (acts_on link s i)
-  acted link told_of.Tick = ticked link s.role
-  acted link (told_of.Peer from m) = peer-heard link s.role refl from m
-  acted link (told_of.Client client number request) = asks-of client number request
-  acted link (told_of.Join id linked) =
+  acted : (link : Link) (i : model_call.Input) → P (acts_on link s i)
+  acted link model_call.Tick = ticked link s.role
+  acted link (model_call.Peer from m) = peer-heard link s.role refl from m
+  acted link (model_call.Client client number request) = asks-of client number request
+  acted link (model_call.Join id linked) =
       if-leading s.role (λ l. join link s l id linked) (λ l. changed (join_refusal s l id linked)
-      (told_of.send_to (still (leads_with s (joined s l id))) id (part_message link s (record { path = take s.committed s.path; part = 0 })))
-      (stays (told_of.send_to (still (leads_with s (joined s l id))) id (part_message link s (record { path = take s.committed s.path; part = 0 }))) refl here))
-  acted link (told_of.Admit id) =
+      (model_call.send_to (still (leads_with s (joined s l id))) id (part_message link s (record { path = take s.committed s.path; part = 0 })))
+      (stays (model_call.send_to (still (leads_with s (joined s l id))) id (part_message link s (record { path = take s.committed s.path; part = 0 }))) refl here))
+  acted link (model_call.Admit id) =
       if-leading s.role (λ l. admit s l id) (λ l. changed (admit_refusal s l id)
       (push_members s (record l { learners = others id l.learners }) (with_voter (newest s) id))
       (pushes (record l { learners = others id l.learners }) (with_voter (newest s) id)))
-  acted link (told_of.Remove id) =
+  acted link (model_call.Remove id) =
       if-leading s.role (λ l. remove s l id) (λ l. changed (remove_refusal s id)
       (push_members s l (without_voter (newest s) id)) (pushes l (without_voter (newest s) id)))
-  acted link (told_of.Margin margin) =
+  acted link (model_call.Margin margin) =
       if-leading s.role (λ l. set_margin s l margin) (λ l. changed (margin_refusal s margin)
       (push_members s l (record (newest s) { margin = margin })) (pushes l (record (newest s) { margin = margin })))
 
-  acted-halted : (link : Link) (o : Option (ℕ × Hash × Hash)) (i : told_of.Input) → P (acts link s o i)
+  acted-halted : (link : Link) (o : Option (ℕ × Hash × Hash)) (i : model_call.Input) → P (acts link s o i)
   acted-halted link None i = acted link i
-  acted-halted link (Some d) told_of.Tick = stilled s here
-  acted-halted link (Some d) (told_of.Peer from m) = stilled s here
-  acted-halted link (Some d) (told_of.Client client number request) = asks-of client number request
-  acted-halted link (Some d) (told_of.Join id linked) = stays (acts link s (Some d) (told_of.Join id linked)) refl here
-  acted-halted link (Some d) (told_of.Admit id) = stays (acts link s (Some d) (told_of.Admit id)) refl here
-  acted-halted link (Some d) (told_of.Remove id) = stays (acts link s (Some d) (told_of.Remove id)) refl here
-  acted-halted link (Some d) (told_of.Margin margin) = stays (acts link s (Some d) (told_of.Margin margin)) refl here
+  acted-halted link (Some d) model_call.Tick = stilled s here
+  acted-halted link (Some d) (model_call.Peer from m) = stilled s here
+  acted-halted link (Some d) (model_call.Client client number request) = asks-of client number request
+  acted-halted link (Some d) (model_call.Join id linked) = stays (acts link s (Some d) (model_call.Join id linked)) refl here
+  acted-halted link (Some d) (model_call.Admit id) = stays (acts link s (Some d) (model_call.Admit id)) refl here
+  acted-halted link (Some d) (model_call.Remove id) = stays (acts link s (Some d) (model_call.Remove id)) refl here
+  acted-halted link (Some d) (model_call.Margin margin) = stays (acts link s (Some d) (model_call.Margin margin)) refl here
 
   appends-one : (link : Link) (c : Call) (r : Role) (v : ℕ) → c.state.role ≡ r → Carries c (send_append link c r v)
   appends-one link c (Learner taking) v is = same-call c
@@ -397,9 +397,9 @@ module _ (s : Replica) (P : Call → Type 0) (w : Ways s P) where
       let d : Call = send_appends link c c.appends in
       carries-on c d (concluded d) (appends-all link c.appends c) (stops d)
 
-  pub stepped : (link : Link) (i : told_of.Input) → P (step link s i)
+  pub stepped : (link : Link) (i : model_call.Input) → P (step link s i)
   stepped link i =
       let c : Call = acts link s s.halted i in
       let d : Call = with_end link c in
-      w.carried d (told d) (record { moments = refl; answers = refl; state = kept-state d.state; leads = λ l is. (l, is) })
+      w.carried d (with_sent d) (record { moments = refl; answers = refl; state = kept-state d.state; leads = λ l is. (l, is) })
       (w.carried c d (ended-with link c c.state.halted) (acted-halted link s.halted i))

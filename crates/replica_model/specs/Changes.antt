@@ -91,9 +91,9 @@ margin_refusal s margin =
     )
 
 -- the refusal, or the change
-abbrev pub unless : Replica → Option Refusal → Call → Call
-unless s (Some refusal) c = refuses s refusal
-unless s None c = c
+abbrev pub refused_or : Replica → Option Refusal → Call → Call
+refused_or s (Some refusal) c = refuses s refusal
+refused_or s None c = c
 
 -- a learner anew: nothing is known of it, and a table at the committed point is begun
 abbrev pub joined : Replica → Leading → ℕ → Leading
@@ -107,7 +107,7 @@ joined s l id =
 -- join: the first part is sent
 abbrev pub join : Link → Replica → Leading → ℕ → Bool → Call
 join link s l id linked =
-    unless s (join_refusal s l id linked)
+    refused_or s (join_refusal s l id linked)
     (send_to (still (leads_with s (joined s l id))) id (part_message link s (record { path = take s.committed s.path; part = 0 })))
 
 -- a Members entry is pushed; then the leader raises, and sends to every peer
@@ -130,15 +130,15 @@ without_voter c id = record c { voters = others id c.voters }
 -- admit: a learner becomes a voter, and keeps its progress
 abbrev pub admit : Replica → Leading → ℕ → Call
 admit s l id =
-    unless s (admit_refusal s l id) (push_members s (record l { learners = others id l.learners }) (with_voter (newest s) id))
+    refused_or s (admit_refusal s l id) (push_members s (record l { learners = others id l.learners }) (with_voter (newest s) id))
 
 -- remove
 abbrev pub remove : Replica → Leading → ℕ → Call
-remove s l id = unless s (remove_refusal s id) (push_members s l (without_voter (newest s) id))
+remove s l id = refused_or s (remove_refusal s id) (push_members s l (without_voter (newest s) id))
 
 -- margin: the voters stay as they are
 abbrev pub set_margin : Replica → Leading → ℕ → Call
-set_margin s l margin = unless s (margin_refusal s margin) (push_members s l (record (newest s) { margin = margin }))
+set_margin s l margin = refused_or s (margin_refusal s margin) (push_members s l (record (newest s) { margin = margin }))
 
 -- a replica that does not lead refuses, with its known leader
 abbrev pub at_leader : Replica → Role → (Leading → Call) → Call

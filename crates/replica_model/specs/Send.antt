@@ -68,5 +68,5 @@ ended link c (Some halted) = c
 ended link c None = concluded (send_appends link c c.appends)
 
 -- the messages stand in the batch
-abbrev pub told : Call → Call
-told c = record c { batch = record (c.batch) { sent = map (λ m. (m.0, m.1.msg)) c.sent } }
+abbrev pub with_sent : Call → Call
+with_sent c = record c { batch = record (c.batch) { sent = map (λ m. (m.0, m.1.msg)) c.sent } }

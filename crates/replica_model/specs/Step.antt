@@ -17,7 +17,7 @@ use Rattle.replica_model.specs.Tables.{learner_hears, part_heard, part_taken}
 use Rattle.replica_model.specs.Clients.{client_request}
 use Rattle.replica_model.specs.Changes.{at_leader, join, admit, remove, set_margin}
 use Rattle.replica_model.specs.Ticks.{tick}
-use Rattle.replica_model.specs.Send.{ended, told}
+use Rattle.replica_model.specs.Send.{ended, with_sent}
 
 -- a message of the replica's own term, where it holds a log
 abbrev pub hears : Link → Replica → ℕ → PeerMsg → Call
@@ -81,4 +81,4 @@ with_end link c = ended link c c.state.halted
 
 -- one call
 abbrev pub step : Link → Replica → Input → Call
-step link s input = told (with_end link (acts link s s.halted input))
+step link s input = with_sent (with_end link (acts link s s.halted input))

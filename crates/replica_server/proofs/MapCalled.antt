@@ -11,7 +11,7 @@ use Rattle.values.specs.declared.peer.PeerMsg.TheVariants.{AskVote, Vote, Append
 use Rattle.replica_model.specs.Linked.{sha_link}
 use Rattle.replica_model.specs.Message.{Message}
 use Rattle.replica_model.specs.Replica.{Named, Role, Learner, Follower, Candidate, Leader, Replica, nothing_named}
-use Rattle.replica_model.specs.Call as told
+use Rattle.replica_model.specs.Call as model_call
 use Rattle.replica_model.specs.Step.{step}
 use Rattle.replica_core.specs.declared.replica.State.{State}
 use Rattle.replica_core.specs.Inputs.{IsNamed}
@@ -133,28 +133,28 @@ module _ (tagging : Tagging) (names : Point → Named) where
 
   -- the running enclave stands for the model's before and after
   module _ (old new : State) (e : Enclave) (stands : core.StandsFor old e.replica) (h : AreByMap names e) where
-    stepped : (Holds old → Holds new) → (i : told.Input) → IsTold names e.replica.role i → core.StandsFor new (step sha_link e.replica i).state
+    stepped : (Holds old → Holds new) → (i : model_call.Input) → IsTold names e.replica.role i → core.StandsFor new (step sha_link e.replica i).state
         → AreByMap names (calls e (step sha_link e.replica i)).enclave
     stepped on i is after = (step_by_map names old new e.replica i stands h.0 is on after, h.1)
 
     pub kept_by_map : (input : HostInput Message) → (host.IsNoRoll (Hands input) → Holds old → Holds new) → IsOfHost (Hands input)
         → core.StandsFor new (called sha_link e input).enclave.replica → AreByMap names (called sha_link e input).enclave
-    kept_by_map Tick on is after = stepped (on tt) told.Tick tt after
+    kept_by_map Tick on is after = stepped (on tt) model_call.Tick tt after
     kept_by_map (Peer from to m) on is after = absurd is
-    kept_by_map (Client client number request) on is after = stepped (on tt) (told.Client client number request) tt after
-    kept_by_map (Join id) on is after = stepped (on tt) (told.Join id (is_in e.links id)) tt after
-    kept_by_map (Admit id) on is after = stepped (on tt) (told.Admit id) tt after
-    kept_by_map (Remove id) on is after = stepped (on tt) (told.Remove id) tt after
+    kept_by_map (Client client number request) on is after = stepped (on tt) (model_call.Client client number request) tt after
+    kept_by_map (Join id) on is after = stepped (on tt) (model_call.Join id (is_in e.links id)) tt after
+    kept_by_map (Admit id) on is after = stepped (on tt) (model_call.Admit id) tt after
+    kept_by_map (Remove id) on is after = stepped (on tt) (model_call.Remove id) tt after
     kept_by_map Save on is after = saved_by_map (not (length e.saved - 1 == max_u32)) e h
     kept_by_map (Roll k) on is after = rolled_by_map e k (slice_get e.saved k) refl h
     kept_by_map (Connect id) on is after = h
-    kept_by_map (Margin margin) on is after = stepped (on tt) (told.Margin margin) tt after
+    kept_by_map (Margin margin) on is after = stepped (on tt) (model_call.Margin margin) tt after
 
     accepted_by_map : (Holds old → Holds new) → (mine linked : Bool) (from to : ℕ) (m : Message) → IsToldBy names e.replica.role m.msg m.names
         → core.StandsFor new (accepts mine linked sha_link e from to m).enclave.replica → AreByMap names (accepts mine linked sha_link e from to m).enclave
     accepted_by_map on false linked from to m is after = h
     accepted_by_map on true false from to m is after = h
-    accepted_by_map on true true from to m is after = stepped on (told.Peer from m) is after
+    accepted_by_map on true true from to m is after = stepped on (model_call.Peer from m) is after
 
     pub frame_by_map : (Holds old → Holds new) → (r : Result (ℕ × PeerMsg) Refusal) → IsTrueMessage wording tagging sha_link names e.replica.role r
         → core.StandsFor new (message_called wording tagging sha_link names e r).enclave.replica → AreByMap names (message_called wording tagging sha_link names e r).enclave

@@ -31,7 +31,7 @@ use Rattle.replica_model.specs.Graft.{Offer, points_of, Difference, first_differ
 use Rattle.replica_model.specs.Heard.{to_peer, accepted_upto, accepted_by, accepted_heard, sent_from, rejected_by, rejected_heard}
 use Rattle.replica_model.specs.Tables.{parts_of, rows_of, named_by, part_message, is_taken, taken_with, expects, takes_whole, takes, take_part, part_heard, sends_next, sending_done, sending_heard, taken_by, part_taken}
 use Rattle.replica_model.specs.Ticks.{sent_again, all_again}
-use Rattle.replica_model.specs.Changes.{unless}
+use Rattle.replica_model.specs.Changes.{refused_or}
 use Rattle.replica_model.specs.Send.{can_append, appended_to, send_append, send_appends, stepped_down, base_moved, ended}
 
 -- a difference that is no conflict
@@ -139,7 +139,7 @@ module _ (C : Call → Type 0) where
       (λ b. other)
 
   -- ---- changes of the members
-  pub unless_by : (s : Replica) (o : Option Refusal) (c : Call) → ((refusal : Refusal) → o ≡ Some refusal → C (refuses s refusal)) → (o ≡ None → C c) → C (unless s o c)
+  pub unless_by : (s : Replica) (o : Option Refusal) (c : Call) → ((refusal : Refusal) → o ≡ Some refusal → C (refuses s refusal)) → (o ≡ None → C c) → C (refused_or s o c)
   unless_by s (Some refusal) c refused fine = refused refusal refl
   unless_by s None c refused fine = fine refl
 

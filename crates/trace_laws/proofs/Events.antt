@@ -112,10 +112,10 @@ module _ (batch_bytes : ℕ → Batch → List ℕ) (batch_of : ReadsBatch) (lin
     abbrev Old : List Recorded
     Old = g.field.history
 
-    unless_alike : (b : Bool) (refusal : GroupRefusal) (next : World → Happening Message Enclaves) (after : Group PeerMsg Left → Happening PeerMsg Left) → Alike Old (λ left. after (shadow g left)) (next g)
-        → Alike Old (λ left. happening.unless (contents batch_of) b refusal (shadow g left) after) (happening.unless (enclaves link) b refusal g next)
-    unless_alike true refusal next after alike = ([], refl, λ read rest. refl)
-    unless_alike false refusal next after alike = alike
+    refused_if_alike : (b : Bool) (refusal : GroupRefusal) (next : World → Happening Message Enclaves) (after : Group PeerMsg Left → Happening PeerMsg Left) → Alike Old (λ left. after (shadow g left)) (next g)
+        → Alike Old (λ left. happening.refused_if (contents batch_of) b refusal (shadow g left) after) (happening.refused_if (enclaves link) b refusal g next)
+    refused_if_alike true refusal next after alike = ([], refl, λ read rest. refl)
+    refused_if_alike false refusal next after alike = alike
 
     calls_alike : (r : ℕ) (input : HostInput Message) (o : Option Enclave) → Alike Old (λ left. happening.replied (contents batch_of) r (shadow g left) (next_reply batch_of left)) (happening.replied (enclaves link) r g (call_enclave link g.field r input o))
     calls_alike r input None = refl
@@ -130,7 +130,7 @@ module _ (batch_bytes : ℕ → Batch → List ℕ) (batch_of : ReadsBatch) (lin
         )
 
     tells_alike : (r : ℕ) (input : HostInput Message) (shown : HostInput PeerMsg) → Alike Old (λ left. happening.tells (contents batch_of) r shown (shadow g left)) (happening.tells (enclaves link) r input g)
-    tells_alike r input shown = unless_alike (not (is_in g.running r)) _ (happening.calls (enclaves link) r input) (happening.calls (contents batch_of) r shown) (calls_alike r input (value_at g.field.running r))
+    tells_alike r input shown = refused_if_alike (not (is_in g.running r)) _ (happening.calls (enclaves link) r input) (happening.calls (contents batch_of) r shown) (calls_alike r input (value_at g.field.running r))
 
     rolled_alike : (r k : ℕ) (o : Option Enclave) → Alike Old (λ left. happening.rolled (contents batch_of) r (shadow g left) (next_reply batch_of left)) (happening.rolled (enclaves link) r g (call_enclave link g.field r (Roll k) o))
     rolled_alike r k None = refl
@@ -178,7 +178,7 @@ module _ (batch_bytes : ℕ → Batch → List ℕ) (batch_of : ReadsBatch) (lin
     loses_alike : (k : ℕ) (o : Option (Sent Message)) → Alike Old (λ left. happening.loses (contents batch_of) k (option_map plainly o) (shadow g left)) (happening.loses (enclaves link) k o g)
     loses_alike k None = ([], refl, λ read rest. refl)
     loses_alike k (Some m) =
-        unless_alike (is_in g.lost k) _ (λ g. Happened Passed (record g { lost = k ∷ g.lost; waiting = but k g.waiting })) (λ g. Happened Passed (record g { lost = k ∷ g.lost; waiting = but k g.waiting }))
+        refused_if_alike (is_in g.lost k) _ (λ g. Happened Passed (record g { lost = k ∷ g.lost; waiting = but k g.waiting })) (λ g. Happened Passed (record g { lost = k ∷ g.lost; waiting = but k g.waiting }))
         ([], refl, λ read rest. refl)
 
     wants_alike : (c : ClientId) (r : Result Core WantFault) → Alike Old (λ left. happening.wants (contents batch_of) c r (shadow g left)) (happening.wants (enclaves link) c r g)
@@ -196,39 +196,39 @@ module _ (batch_bytes : ℕ → Batch → List ℕ) (batch_of : ReadsBatch) (lin
     hears_alike : (c : ClientId) (k : ℕ) (o : Option Answered) → Alike Old (λ left. happening.hears (contents batch_of) c k o (shadow g left)) (happening.hears (enclaves link) c k o g)
     hears_alike c k None = ([], refl, λ read rest. refl)
     hears_alike c k (Some a) =
-        unless_alike (not (is_client a.client c)) _ (happening.hears_with (enclaves link) c a (core_of g.cores c)) (happening.hears_with (contents batch_of) c a (core_of g.cores c))
+        refused_if_alike (not (is_client a.client c)) _ (happening.hears_with (enclaves link) c a (core_of g.cores c)) (happening.hears_with (contents batch_of) c a (core_of g.cores c))
         (hears_with_alike c a (core_of g.cores c))
 
   module _ (g : World) where
     delivers_alike : (k : ℕ) (o : Option (Sent Message)) → Alike (Old g) (λ left. happening.delivers (contents batch_of) k (option_map plainly o) (shadow g left)) (happening.delivers (enclaves link) k o g)
     delivers_alike k None = ([], refl, λ read rest. refl)
     delivers_alike k (Some m) =
-        unless_alike g (is_in g.lost k) _ (λ g. happening.running (enclaves link) m.to g (happening.hands (enclaves link) k m)) (λ g. happening.running (contents batch_of) m.to g (happening.hands (contents batch_of) k (plainly m)))
-        (unless_alike g (not (is_in g.running m.to)) _ (happening.hands (enclaves link) k m) (happening.hands (contents batch_of) k (plainly m))
+        refused_if_alike g (is_in g.lost k) _ (λ g. happening.running (enclaves link) m.to g (happening.hands (enclaves link) k m)) (λ g. happening.running (contents batch_of) m.to g (happening.hands (contents batch_of) k (plainly m)))
+        (refused_if_alike g (not (is_in g.running m.to)) _ (happening.hands (enclaves link) k m) (happening.hands (contents batch_of) k (plainly m))
         (calls_alike (record g { waiting = but k g.waiting }) m.to (Peer m.from m.to m.message) (value_at g.field.running m.to)))
 
     acts_alike : (e : Event) → Alike (Old g) (λ left. happening.acts (contents batch_of) e (shadow g left)) (happening.acts (enclaves link) e g)
     acts_alike (event.Begin margin limit voters) = ([], refl, λ read rest. refl)
     acts_alike (event.Start zero) = ([], refl, λ read rest. refl)
-    acts_alike (event.Start (suc r)) = unless_alike g (is_in g.started (suc r)) _ (happening.starts (enclaves link) (suc r)) (happening.starts (contents batch_of) (suc r)) (starts_alike g (suc r))
+    acts_alike (event.Start (suc r)) = refused_if_alike g (is_in g.started (suc r)) _ (happening.starts (enclaves link) (suc r)) (happening.starts (contents batch_of) (suc r)) (starts_alike g (suc r))
     acts_alike (event.Tick r) = tells_alike g r Tick Tick
     acts_alike (event.Deliver k) =
         subst (λ o. Alike (Old g) (λ left. happening.delivers (contents batch_of) k o (shadow g left)) (happening.delivers (enclaves link) k (numbered g.messages k) g)) (sym (numbered_shadow g.messages k)) (delivers_alike k (numbered g.messages k))
     acts_alike (event.Lose k) =
         subst (λ o. Alike (Old g) (λ left. happening.loses (contents batch_of) k o (shadow g left)) (happening.loses (enclaves link) k (numbered g.messages k) g)) (sym (numbered_shadow g.messages k)) (loses_alike g k (numbered g.messages k))
     acts_alike (event.Settle n) = ([], refl, λ read rest. refl)
-    acts_alike (event.Crash r) = unless_alike g (not (is_in g.running r)) _ (happening.crashes (enclaves link) r) (happening.crashes (contents batch_of) r) ([], refl, λ read rest. refl)
+    acts_alike (event.Crash r) = refused_if_alike g (not (is_in g.running r)) _ (happening.crashes (enclaves link) r) (happening.crashes (contents batch_of) r) ([], refl, λ read rest. refl)
     acts_alike (event.Save r) = tells_alike g r Save Save
     acts_alike (event.Roll r k) =
-        unless_alike g (not (is_in g.running r)) _ (happening.rolls (enclaves link) r k) (happening.rolls (contents batch_of) r k)
-        (unless_alike g (not (nat_le k (saves_of g.saves r))) _ (λ g. happening.rolled (enclaves link) r g ((enclaves link).call g.field r (Roll k))) (λ g. happening.rolled (contents batch_of) r g ((contents batch_of).call g.field r (Roll k)))
+        refused_if_alike g (not (is_in g.running r)) _ (happening.rolls (enclaves link) r k) (happening.rolls (contents batch_of) r k)
+        (refused_if_alike g (not (nat_le k (saves_of g.saves r))) _ (λ g. happening.rolled (enclaves link) r g ((enclaves link).call g.field r (Roll k))) (λ g. happening.rolled (contents batch_of) r g ((contents batch_of).call g.field r (Roll k)))
         (rolled_alike g r k (value_at g.field.running r)))
     acts_alike (event.Join r x) = tells_alike g r (Join x) (Join x)
     acts_alike (event.Admit r x) = tells_alike g r (Admit x) (Admit x)
     acts_alike (event.Remove r x) = tells_alike g r (Remove x) (Remove x)
     acts_alike (event.Ask r c n request) = tells_alike g r (Client c n request) (Client c n request)
     acts_alike (event.Want c w) = wants_alike g c (wanted (unwrap_or (core_of g.cores c) new_core) w)
-    acts_alike (event.Say c r) = says_alike g c r (happening.said_by (enclaves link) (core_of g.cores c))
+    acts_alike (event.Say c r) = says_alike g c r (happening.said_if_any (enclaves link) (core_of g.cores c))
     acts_alike (event.Hear c k) = hears_alike g c k (numbered g.answers k)
     acts_alike (event.Margin r m) = tells_alike g r (Margin m) (Margin m)
     acts_alike (event.Again c) = ([], refl, λ read rest. refl)

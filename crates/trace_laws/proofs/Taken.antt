@@ -72,9 +72,9 @@ module _ (batch_of : ReadsBatch) where
     abbrev nothing : (came : Came) → Took g.field (Happened came g)
     nothing came = ([], refl, tt)
 
-    unless_took : (b : Bool) (refusal : GroupRefusal) (next : G → Happening PeerMsg Left) → Took g.field (next g) → Took g.field (happening.unless (contents batch_of) b refusal g next)
-    unless_took true refusal next took = ([], refl, tt)
-    unless_took false refusal next took = took
+    refused_if_took : (b : Bool) (refusal : GroupRefusal) (next : G → Happening PeerMsg Left) → Took g.field (next g) → Took g.field (happening.refused_if (contents batch_of) b refusal g next)
+    refused_if_took true refusal next took = ([], refl, tt)
+    refused_if_took false refusal next took = took
 
     -- a call takes the next content
     replied_took : (r : ℕ) (left : Left) → Took left (happening.replied (contents batch_of) r g (next_reply batch_of left))
@@ -86,7 +86,7 @@ module _ (batch_of : ReadsBatch) where
         by_batch (Err at) is = no_batch content later at is
 
     tells_took : (r : ℕ) (input : HostInput PeerMsg) → Took g.field (happening.tells (contents batch_of) r input g)
-    tells_took r input = unless_took (not (is_in g.running r)) _ (happening.calls (contents batch_of) r input) (replied_took r g.field)
+    tells_took r input = refused_if_took (not (is_in g.running r)) _ (happening.calls (contents batch_of) r input) (replied_took r g.field)
 
     rolled_took : (r : ℕ) (left : Left) → Took left (happening.rolled (contents batch_of) r g (next_reply batch_of left))
     rolled_took r [] = tt
@@ -101,11 +101,11 @@ module _ (batch_of : ReadsBatch) where
         by_batch (Err at) is = no_batch content later at is
 
     rolls_took : (r k : ℕ) → Took g.field (happening.rolls (contents batch_of) r k g)
-    rolls_took r k = unless_took (not (nat_le k (saves_of g.saves r))) _ (λ g. happening.rolled (contents batch_of) r g (next_reply batch_of g.field)) (rolled_took r g.field)
+    rolls_took r k = refused_if_took (not (nat_le k (saves_of g.saves r))) _ (λ g. happening.rolled (contents batch_of) r g (next_reply batch_of g.field)) (rolled_took r g.field)
 
     loses_took : (k : ℕ) (o : Option (Sent PeerMsg)) → Took g.field (happening.loses (contents batch_of) k o g)
     loses_took k None = ([], refl, tt)
-    loses_took k (Some m) = unless_took (is_in g.lost k) _ (λ g. Happened Passed (record g { lost = k ∷ g.lost; waiting = but k g.waiting })) ([], refl, tt)
+    loses_took k (Some m) = refused_if_took (is_in g.lost k) _ (λ g. Happened Passed (record g { lost = k ∷ g.lost; waiting = but k g.waiting })) ([], refl, tt)
 
     wants_took : (c : ClientId) (r : Result Core WantFault) → Took g.field (happening.wants (contents batch_of) c r g)
     wants_took c (Err fault) = ([], refl, tt)
@@ -121,7 +121,7 @@ module _ (batch_of : ReadsBatch) where
 
     hears_took : (c : ClientId) (k : ℕ) (o : Option Answered) → Took g.field (happening.hears (contents batch_of) c k o g)
     hears_took c k None = ([], refl, tt)
-    hears_took c k (Some a) = unless_took (not (is_client a.client c)) _ (happening.hears_with (contents batch_of) c a (core_of g.cores c)) (hears_with_took c a (core_of g.cores c))
+    hears_took c k (Some a) = refused_if_took (not (is_client a.client c)) _ (happening.hears_with (contents batch_of) c a (core_of g.cores c)) (hears_with_took c a (core_of g.cores c))
 
   -- a learner starts: a content for each link
   connected_took : (x : ℕ) (rs : List ℕ) (left : Left) (next : Left → Happening PeerMsg Left) → ((left : Left) → Took left (next left)) → Took left (happening.connected (contents batch_of) x rs left next)
@@ -138,28 +138,28 @@ module _ (batch_of : ReadsBatch) where
     delivers_took : (k : ℕ) (o : Option (Sent PeerMsg)) → Took g.field (happening.delivers (contents batch_of) k o g)
     delivers_took k None = ([], refl, tt)
     delivers_took k (Some m) =
-        unless_took g (is_in g.lost k) _ (λ g. happening.running (contents batch_of) m.to g (happening.hands (contents batch_of) k m))
-        (unless_took g (not (is_in g.running m.to)) _ (happening.hands (contents batch_of) k m) (replied_took (record g { waiting = but k g.waiting }) m.to g.field))
+        refused_if_took g (is_in g.lost k) _ (λ g. happening.running (contents batch_of) m.to g (happening.hands (contents batch_of) k m))
+        (refused_if_took g (not (is_in g.running m.to)) _ (happening.hands (contents batch_of) k m) (replied_took (record g { waiting = but k g.waiting }) m.to g.field))
 
     acts_took : (e : Event) → Took g.field (happening.acts (contents batch_of) e g)
     acts_took (event.Begin margin limit voters) = ([], refl, tt)
     acts_took (event.Start zero) = ([], refl, tt)
     acts_took (event.Start (suc r)) =
-        unless_took g (is_in g.started (suc r)) _ (happening.starts (contents batch_of) (suc r))
+        refused_if_took g (is_in g.started (suc r)) _ (happening.starts (contents batch_of) (suc r))
         (connected_took (suc r) g.running g.field (λ f. Happened Passed (record g { running = insert_rising (suc r) g.running; started = suc r ∷ g.started; field = f })) (λ left. ([], refl, tt)))
     acts_took (event.Tick r) = tells_took g r Tick
     acts_took (event.Deliver k) = delivers_took k (numbered g.messages k)
     acts_took (event.Lose k) = loses_took g k (numbered g.messages k)
     acts_took (event.Settle n) = ([], refl, tt)
-    acts_took (event.Crash r) = unless_took g (not (is_in g.running r)) _ (happening.crashes (contents batch_of) r) ([], refl, tt)
+    acts_took (event.Crash r) = refused_if_took g (not (is_in g.running r)) _ (happening.crashes (contents batch_of) r) ([], refl, tt)
     acts_took (event.Save r) = tells_took g r Save
-    acts_took (event.Roll r k) = unless_took g (not (is_in g.running r)) _ (happening.rolls (contents batch_of) r k) (rolls_took g r k)
+    acts_took (event.Roll r k) = refused_if_took g (not (is_in g.running r)) _ (happening.rolls (contents batch_of) r k) (rolls_took g r k)
     acts_took (event.Join r x) = tells_took g r (Join x)
     acts_took (event.Admit r x) = tells_took g r (Admit x)
     acts_took (event.Remove r x) = tells_took g r (Remove x)
     acts_took (event.Ask r c n request) = tells_took g r (Client c n request)
     acts_took (event.Want c w) = wants_took g c (wanted (unwrap_or (core_of g.cores c) new_core) w)
-    acts_took (event.Say c r) = says_took g c r (happening.said_by (contents batch_of) (core_of g.cores c))
+    acts_took (event.Say c r) = says_took g c r (happening.said_if_any (contents batch_of) (core_of g.cores c))
     acts_took (event.Hear c k) = hears_took g c k (numbered g.answers k)
     acts_took (event.Margin r m) = tells_took g r (Margin m)
     acts_took (event.Again c) = ([], refl, tt)

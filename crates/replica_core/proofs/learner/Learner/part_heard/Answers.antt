@@ -4,7 +4,7 @@ use Rattle.group_msgs.specs.Ranges.{IsIndex}
 use Rattle.values.specs.declared.peer.PeerMsg.TheVariants.{Part}
 use Rattle.values.specs.declared.peer.TablePart.{TablePart}
 use Rattle.replica_model.specs.Linked.{sha_link}
-use Rattle.replica_model.specs.Send.{told}
+use Rattle.replica_model.specs.Send.{with_sent}
 use Rattle.replica_model.specs.Step.{with_end}
 use Rattle.replica_model.specs.Tables.{learner_hears}
 use Rattle.table_transfer.specs.Taken.{TakesAs}
@@ -25,8 +25,8 @@ returns-in_ok-expect-in-Taken-clause-model c = λ s taking names s-is parts true
     let l : Learner = record { alloc = before.alloc; me = before.me; term = c.max-self.result; taking = c.take_part.new.self } in
     let takes_as : TakesAs sha_link taking part names l.taking (Taken c.in-Taken.next) =
     subst (TakesAs sha_link taking part names l.taking) c.in-Taken.is (c.in_ok-next.ensures.of_path sha_link taking names parts true_part goes_on) in
-    subst (λ r. LearnsOrHolds l None c.expect.new.batch (told (with_end sha_link (learner_hears sha_link r taking c.args.from names (Part c.args.term part))))) (sym s-is)
-    (subst (λ b. LearnsOrHolds l None b (told (with_end sha_link (learner_hears sha_link (learning before.me before.term taking) taking c.args.from names (Part c.args.term part)))))
+    subst (λ r. LearnsOrHolds l None c.expect.new.batch (with_sent (with_end sha_link (learner_hears sha_link r taking c.args.from names (Part c.args.term part))))) (sym s-is)
+    (subst (λ b. LearnsOrHolds l None b (with_sent (with_end sha_link (learner_hears sha_link (learning before.me before.term taking) taking c.args.from names (Part c.args.term part)))))
     (sym c.in_ok-expect-in-Taken.ensures)
     (hears-taken l c.args.batch.now c.requires.empty before.me before.term c.args.term refl c.max-self.ensures taking c.args.from part names true_part c.in-Taken.next goes_on takes_as))
 
@@ -37,8 +37,8 @@ returns-in_ok-expect-in-Whole-clause-model c = λ s taking names s-is parts true
     let l : Learner = record { alloc = before.alloc; me = before.me; term = c.max-self.result; taking = c.take_part.new.self } in
     let takes_as : TakesAs sha_link taking part names l.taking (Whole c.in-Whole.table) =
     subst (TakesAs sha_link taking part names l.taking) c.in-Whole.is (c.in_ok-next.ensures.of_path sha_link taking names parts true_part goes_on) in
-    subst (λ r. LearnsOrHolds l (Some c.with_table.result) c.expect-in-Whole.new.batch (told (with_end sha_link (learner_hears sha_link r taking c.args.from names (Part c.args.term part))))) (sym s-is)
-    (subst (λ b. LearnsOrHolds l (Some c.with_table.result) b (told (with_end sha_link (learner_hears sha_link (learning before.me before.term taking) taking c.args.from names (Part c.args.term part)))))
+    subst (λ r. LearnsOrHolds l (Some c.with_table.result) c.expect-in-Whole.new.batch (with_sent (with_end sha_link (learner_hears sha_link r taking c.args.from names (Part c.args.term part))))) (sym s-is)
+    (subst (λ b. LearnsOrHolds l (Some c.with_table.result) b (with_sent (with_end sha_link (learner_hears sha_link (learning before.me before.term taking) taking c.args.from names (Part c.args.term part)))))
     (sym c.in_ok-expect-in-Whole.ensures)
     (hears-whole l c.args.batch.now c.requires.empty before.me before.term c.args.term refl c.max-self.ensures taking c.args.from part names true_part
     c.in-Whole.table c.with_table.result takes_as c.with_table.ensures.holder c.with_table.ensures.log))
