@@ -1,4 +1,5 @@
-//! The chain of hashes over a log: each entry's hash is taken of the hash before it, of its place and of its content.
+//! The chain of hashes over a log: each entry's hash is taken of the hash before it, of its place and of its content,
+//! by SHA-256 (FIPS 180-4).
 #![tactic(auto)]
 
 ghost use Rattle.std.specs.Prelude.{◌≡◌, ◌++◌, ◌∷◌, [], replicate};

@@ -22,8 +22,8 @@ pub fn read_batch(
 ) -> Result<(ReplicaId, Batch, FrameList), BatchFault>
     // What is read is what the items of the content say.
     ensures found { IfOk result (λ read. IsListed content.now read.0 read.1 read.2) }
-    // Every content of items in order is read, and of another the offset of the first bad item is told. Memory that runs out hides
-    // a batch only.
+    // Every content of items in order is read, and of another the offset of the first bad item is told. Where memory runs out
+    // a batch alone is hidden.
     ensures exact { ReadsBatch result (batch_in content.now) }
 {
     read_items(alloc, content)

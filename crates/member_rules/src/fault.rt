@@ -15,9 +15,9 @@ pub enum MemberFault {
     AlreadyVoter(u32),
     /// The id is no voter of it.
     NotVoter(u32),
-    /// So many voters would stand, too few for the margin.
+    /// This many voters would be left, too few for the margin.
     TooFew(u32),
-    /// So many voters or learners would stand.
+    /// There would be this many voters or learners.
     TooMany(u32),
     /// The learner has accepted the log up to this mark alone; the committed index is the other number.
     NotCaughtUp(u64, u64),

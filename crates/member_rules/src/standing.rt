@@ -25,7 +25,7 @@ impl Standing {
     ghost use Rattle.member_rules.specs.Standings.{standing_of, standing_in};
     ghost use Rattle.member_rules.specs.InRange.{IsStandingInRange};
 
-    /// That of a log.
+    /// The standing of a log.
     pub fn of(log: &Log) -> Standing
         ensures window { result ≡ standing_of log.now }
         ensures model { OfEach sha_link log.now (λ s. result ≡ standing_in s) }

@@ -15,6 +15,9 @@ use replica_model::voters_counted_are;
 /// Raises the promised index to the greatest index of an entry of the leader's term for which the voters' marks are
 /// enough, where that is higher, and answers whether it rose. A mark says up to where a voter has accepted the log; the
 /// leader's own is its last index. A voter without a mark has 0.
+///
+/// So an entry of an older term is promised only below one of the leader's own, as Raft commits it (Ongaro, "Consensus:
+/// Bridging Theory and Practice", 2014, chapter 3).
 pub fn raise_promise(log: &mut Log, term: u64, marks: &[(u32, u64)]) -> bool
     ensures greatest { log.new ≡ promised_to log.old (promised_by log.old term marks.now) }
     ensures rose { result ≡ nat_lt log.old.promised log.new.promised }

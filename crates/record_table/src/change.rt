@@ -8,7 +8,7 @@ use values::{Kept, Row};
 /// A change of a client's record.
 #[derive(Debug, Drop)]
 pub enum Change {
-    /// The record stays as it is, and so does its absence.
+    /// A record stays as it is, and where there is none it stays so.
     Stay,
     /// There is no record any more.
     Forget,
@@ -16,7 +16,7 @@ pub enum Change {
     Keep(Kept),
     /// The record's secret may be restored from now on.
     Expose,
-    /// So many tries are left.
+    /// The number of tries that are left becomes this one.
     Leave(u32),
 }
 

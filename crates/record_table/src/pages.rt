@@ -40,7 +40,7 @@ impl Model for Pages {
 }
 
 impl Pages {
-    /// No slot.
+    /// An empty list.
     pub fn new(alloc: Global) -> Pages
         ensures { result ≡ [] }
     {

@@ -15,7 +15,7 @@ pub trait RowStore: Sized {
     /// The rows.
     ghost content: { Self → List Row };
 
-    /// A store of no row.
+    /// An empty store.
     fn empty(alloc: Global) -> Self
         ensures { content result ≡ [] };
 

@@ -160,7 +160,7 @@ impl<T: RowStore> TableOver<T> {
         Ok(true)
     }
 
-    /// An equal table.
+    /// A copy of it.
     pub fn copy(&self) -> Result<TableOver<T>, Memory>
         ensures { IfOk result (λ table. table ≡ self.now) }
     {

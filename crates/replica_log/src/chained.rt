@@ -43,7 +43,7 @@ impl Chained {
         }
     }
 
-    /// An equal value.
+    /// A copy of it.
     pub fn copy(&self, alloc: Global) -> Result<Chained, Memory>
         ensures { IfOk result (λ value. value ≡ self.now) }
     {

@@ -260,7 +260,7 @@ impl Log {
         }
     }
 
-    /// An equal log.
+    /// A copy of it.
     pub fn copy(&self) -> Result<Log, Memory>
         ensures { IfOk result (λ log. log ≡ self.now) }
     {

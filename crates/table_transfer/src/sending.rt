@@ -131,7 +131,7 @@ impl Sending {
         Sent::Ignored
     }
 
-    /// An equal one.
+    /// A copy of it.
     pub fn copy(&self) -> Result<Sending, Memory>
         ensures { IfOk result (λ sending. sending ≡ self.now) }
     {

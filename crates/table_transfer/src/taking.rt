@@ -103,7 +103,7 @@ impl Taking {
         Ok(TakePart::Taken(next))
     }
 
-    /// An equal one.
+    /// A copy of it.
     pub fn copy(&self) -> Result<Taking, Memory>
         ensures { IfOk result (λ taking. taking ≡ self.now) }
     {
@@ -191,7 +191,7 @@ impl Parts {
         Ok(())
     }
 
-    /// Equal ones.
+    /// A copy of them.
     fn copy(&self, alloc: Global) -> Result<Parts, Memory>
         ensures { IfOk result (λ parts. parts ≡ self.now) }
     {
