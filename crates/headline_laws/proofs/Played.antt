@@ -1,5 +1,5 @@
 -- What is played keeps what each of its events keeps; so it is a run of the events that were played.
-use Rattle.std.proofs.Common.{◌≡◌, ℕ, zero, suc, false, Option, Some, None, Result, Ok, Err, List, [], ◌∷◌, refl, sym, ap, subst, ◌∙◌}
+use Rattle.std.proofs.Common.{◌≡◌, ℕ, false, Option, Some, None, List, [], ◌∷◌, refl, sym, ap, subst, ◌∙◌}
 use Rattle.std.specs.Prelude.{reverse, is_some}
 use Rattle.std.proofs.lemmas.List.{reverse-append}
 use Rattle.std.proofs.lemmas.Grind.{fold-append}
@@ -7,49 +7,20 @@ use Rattle.values.specs.declared.event.Event.{Event}
 use Rattle.values.specs.declared.event.Event.TheVariants as event
 use Rattle.record_cutting.specs.Lines.{Record, records_of}
 use Rattle.schedule_model.specs.Quantities.{Quantity}
-use Rattle.schedule_model.specs.Reading.{RecordFault}
 use Rattle.schedule_model.specs.Records.{event_of}
-use Rattle.schedule_model.specs.Written.{Written, On, Off, onto, follow, all_written, last_of}
 use Rattle.replica_model.specs.Path.{Link}
 use Rattle.replica_model.specs.Message.{Message}
 use Rattle.group_model.specs.Group.{next_message}
 use Rattle.group_model.specs.Happens.{Came, Happening, Happened, Broken, Unanswered, happens}
 use Rattle.group_model.specs.Run.{Enclaves, World, enclaves, group_after, run, empty_world}
 use Rattle.trace_model.specs.Limits.{passed_before, passed_after}
-use Rattle.trace_model.specs.Trace.{Playing, playing, counted, happened_text, within_limits, happened, tried, played, settled, expanded, said, record_played}
+use Rattle.trace_model.specs.Trace.{Playing, playing, happened_text, within_limits, happened, tried, played, expanded}
 use Rattle.trace_model.specs.Schedules.{world_of}
 use Rattle.trace_model.specs.Claims.{ScheduleIsARun}
+use Rattle.play_walk.proofs.Ends.{Ends, ReadsFine, any_read}
+use Rattle.play_walk.proofs.Played as play
+use Rattle.play_walk.proofs.Played.{FineRead, fine_read}
 use Rattle.headline_laws.proofs.Past.{HasPast, happens_past}
-
--- ---- what is written, piece by piece
-module _ {S : Type 0} (P : S → Type 0) where
-  -- where playing then stands is such
-  abbrev pub Ends : Written S → Type 0
-  Ends x = P (last_of x)
-
-  onto_ends : (text : List ℕ) (x : Written S) → Ends x → Ends (onto text x)
-  onto_ends text (On more s) h = h
-  onto_ends text (Off more stop s) h = h
-
-  pub follow_ends : (x : Written S) (next : S → Written S) → Ends x → ((s : S) → P s → Ends (next s)) → Ends (follow x next)
-  follow_ends (On text s) next h later = onto_ends text (next s) (later s h)
-  follow_ends (Off text stop s) next h later = h
-
-  pub all_end : {A : Type 0} (piece : S → A → Written S) → ((s : S) (a : A) → P s → Ends (piece s a)) → (s : S) (xs : List A) → P s → Ends (all_written piece s xs)
-  unfolding all_written
-  all_end piece each s [] h = h
-  all_end piece each s (a ∷ rest) h = follow_ends (piece s a) (λ t. all_written piece t rest) (each s a h) (λ t good. all_end piece each t rest good)
-
--- an event that was read is fine
-abbrev pub ReadsFine : (Event → Type 0) → Result (Option Event) RecordFault → Type 0
-ReadsFine Fine (Ok (Some e)) = Fine e
-ReadsFine Fine (Ok None) = Unit {0}
-ReadsFine Fine (Err fault) = Unit {0}
-
-pub any_read : (Fine : Event → Type 0) → ((e : Event) → Fine e) → (r : Result (Option Event) RecordFault) → ReadsFine Fine r
-any_read Fine fine (Ok (Some e)) = fine e
-any_read Fine fine (Ok None) = tt
-any_read Fine fine (Err fault) = tt
 
 -- What each event of these keeps is kept by all that is played of them. The events that a settle stands for are fine, and
 -- those that a record stands for.
@@ -76,36 +47,11 @@ module _ (link : Link) (P : World → Type 0) (Fine : World → Event → Type 0
     played_keeps : Ends Plays (played (enclaves link) p e)
     played_keeps = tried_keeps (passed_before p.group e) refl
 
-  settled_keeps : (n : ℕ) (p : Playing Message Enclaves) → Plays p → Ends Plays (settled (enclaves link) n p)
-  settled_keeps zero p good = good
-  settled_keeps (suc n) p good = by_next (settled_keeps n) (next_message p.group) refl
-    where
-      by_next : ((q : Playing Message Enclaves) → Plays q → Ends Plays (settled (enclaves link) n q)) → (o : Option ℕ) → next_message p.group ≡ o
-          → Ends Plays (elim o [ None ↦ On [] p | Some k ↦ follow (played (enclaves link) p (event.Deliver k)) (settled (enclaves link) n) ])
-      by_next rest None is = good
-      by_next rest (Some k) is = follow_ends Plays (played (enclaves link) p (event.Deliver k)) (settled (enclaves link) n) (played_keeps p good (event.Deliver k) (delivered p.group k good is)) rest
+  pub expanded_keeps : (p : Playing Message Enclaves) (e : Event) → FineRead Fine p.group e → Plays p → Ends Plays (expanded (enclaves link) p e)
+  expanded_keeps = play.expanded_keeps link Plays Fine played_keeps (λ p. delivered p.group) (λ p good. good)
 
-  -- what is asked of an event that is read: a settle is played as others
-  abbrev pub FineRead : World → Event → Type 0
-  FineRead g (event.Settle n) = Unit {0}
-  FineRead g e = Fine g e
-
-  pub fine_read : (g : World) (e : Event) → Fine g e → FineRead g e
-  fine_read g (event.Settle n) fine = tt
-  fine_read g e fine = fine
-
-  pub expanded_keeps : (p : Playing Message Enclaves) (e : Event) → FineRead p.group e → Plays p → Ends Plays (expanded (enclaves link) p e)
-  expanded_keeps p (event.Settle n) fine good = settled_keeps n p good
-  expanded_keeps p e fine good = played_keeps p good e fine
-
-  said_keeps : (p : Playing Message Enclaves) (r : Result (Option Event) RecordFault) → ReadsFine (FineRead p.group) r → Plays p → Ends Plays (said (enclaves link) p r)
-  said_keeps p (Ok None) fine good = good
-  said_keeps p (Ok (Some e)) fine good = expanded_keeps (counted p) e fine good
-  said_keeps p (Err fault) fine good = good
-
-  pub schedule_keeps : P empty_world → ((g : World) (fields : Record) → ReadsFine (FineRead g) (event_of false (is_some g.setup) fields)) → (bytes : List ℕ) → P (world_of link bytes)
-  schedule_keeps first read bytes =
-      all_end Plays (record_played (enclaves link)) (λ p fields good. said_keeps p (event_of false (is_some p.group.setup) fields) (read p.group fields) good) (playing empty_world) (records_of bytes) first
+  pub schedule_keeps : P empty_world → ((g : World) (fields : Record) → ReadsFine (FineRead Fine g) (event_of false (is_some g.setup) fields)) → (bytes : List ℕ) → P (world_of link bytes)
+  schedule_keeps first read bytes = play.records_keep link Plays Fine played_keeps (λ p. delivered p.group) (λ p good. good) read (playing empty_world) first (records_of bytes)
 
 -- ---- a run
 module _ (link : Link) where
@@ -131,14 +77,11 @@ module _ (link : Link) where
   one_on : (g h : World) (e : Event) (came : Came) → IsRun g → Unit {0} → passed_before g e ≡ None → happens (enclaves link) e g ≡ Happened came h → passed_after h ≡ None → IsRun h
   one_on g h e came good fine before is after = run_on g h e came good is
 
-  any_fine : (g : World) (e : Event) → FineRead link IsRun (λ g e. Unit {0}) one_on (λ g k good is. tt) g e
-  any_fine g e = fine_read link IsRun (λ g e. Unit {0}) one_on (λ g k good is. tt) g e tt
-
   pub expanded_run : (p : Playing Message Enclaves) (e : Event) → IsRun p.group → Ends (λ (q : Playing Message Enclaves). IsRun q.group) (expanded (enclaves link) p e)
-  expanded_run p e good = expanded_keeps link IsRun (λ g e. Unit {0}) one_on (λ g k good is. tt) p e (any_fine p.group e) good
+  expanded_run p e good = expanded_keeps link IsRun (λ g e. Unit {0}) one_on (λ g k good is. tt) p e (fine_read (λ g e. Unit {0}) p.group e tt) good
 
   pub schedule_run : (bytes : List ℕ) → IsRun (world_of link bytes)
-  schedule_run bytes = schedule_keeps link IsRun (λ g e. Unit {0}) one_on (λ g k good is. tt) refl (λ g fields. any_read _ (any_fine g) (event_of false (is_some g.setup) fields)) bytes
+  schedule_run bytes = schedule_keeps link IsRun (λ g e. Unit {0}) one_on (λ g k good is. tt) refl (λ g fields. any_read _ (λ e. fine_read (λ g e. Unit {0}) g e tt) (event_of false (is_some g.setup) fields)) bytes
 
 pub schedules_are_runs : ScheduleIsARun
 schedules_are_runs = schedule_run

@@ -31,7 +31,9 @@ use Rattle.range_laws.proofs.Colliding.{no_collision}
 use Rattle.log_laws.proofs.History.{all_more}
 use Rattle.headline_laws.specs.Bytes.{BytesTellSchedules}
 use Rattle.headline_laws.proofs.Past.{HasPast, happens_past}
-use Rattle.headline_laws.proofs.Played.{ReadsFine, FineRead, schedule_keeps}
+use Rattle.play_walk.proofs.Ends.{ReadsFine}
+use Rattle.play_walk.proofs.Played.{FineRead}
+use Rattle.headline_laws.proofs.Played.{schedule_keeps}
 
 -- a world in range by its events, of which there are no more than may be, and so of its messages and answers
 pub record Ranged (w : World) : Type 0 where
@@ -103,7 +105,7 @@ module _ (link : Link) (hashes : GivesHashes link) where
   each_on g h e came r fine before is after = (ranged_on link hashes max_u64 (omega arith) g h e came r fine is before after).ranged
 
   abbrev Reads : World → Event → Type 0
-  Reads g e = FineRead link Ranged (λ g e. EventIn e) each_on ranged_next g e
+  Reads g e = FineRead (λ g e. EventIn e) g e
 
   read_fine : (most : ℕ) (begun : Bool) (g : World) (e : Event) → IsReadAs most begun e → Reads g e
   read_fine most begun g (event.Settle n) h = tt

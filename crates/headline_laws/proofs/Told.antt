@@ -22,7 +22,8 @@ use Rattle.trace_model.specs.Schedules.{played_of, world_of}
 use Rattle.trace_model.specs.Summary.{halts, drill_played}
 use Rattle.trace_model.specs.Claims.{ScheduleIsARun, DrivenIsARun, DrillHolds, drill_world}
 use Rattle.trace_model.specs.Driven.{driven_world}
-use Rattle.headline_laws.proofs.Played.{IsRun, all_end, expanded_run}
+use Rattle.play_walk.proofs.Ends.{all_end}
+use Rattle.headline_laws.proofs.Played.{IsRun, expanded_run}
 use Rattle.headline_laws.specs.HaltLines.{NoHaltLine, DrivenNoHalt}
 use Rattle.headline_laws.proofs.Calm.{IsNoRoll}
 use Rattle.headline_laws.proofs.Playing.{Plays, all_plays, record_plays, expanded_plays, whole_fine, last_rolled}

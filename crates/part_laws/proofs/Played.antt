@@ -1,49 +1,26 @@
 -- Where records are played, the enclaves stand as those of a run: with the event that ended the text, where one did.
-use Rattle.std.proofs.Common.{◌≡◌, ℕ, zero, suc, false, Option, Some, None, Result, Ok, Err, List, [], ◌∷◌, ◌++◌, refl, sym, ap, subst, ◌∙◌}
+use Rattle.std.proofs.Common.{◌≡◌, false, Option, Some, None, List, [], ◌∷◌, ◌++◌, refl, sym, ap, subst, ◌∙◌}
 use Rattle.std.specs.Prelude.{is_some}
 use Rattle.std.proofs.lemmas.Grind.{fold-append}
 use Rattle.values.specs.declared.event.Event.{Event}
-use Rattle.values.specs.declared.event.Event.TheVariants as event
 use Rattle.record_cutting.specs.Lines.{Record, records_of}
 use Rattle.schedule_model.specs.Quantities.{Quantity}
-use Rattle.schedule_model.specs.Reading.{RecordFault}
 use Rattle.schedule_model.specs.Records.{event_of}
-use Rattle.schedule_model.specs.Written.{Written, On, Off, onto, follow, all_written, last_of}
 use Rattle.replica_model.specs.Path.{Link}
 use Rattle.replica_model.specs.Message.{Message}
-use Rattle.group_model.specs.Group.{next_message}
 use Rattle.group_model.specs.Happens.{Came, Happening, Happened, Broken, Unanswered, happens}
 use Rattle.group_model.specs.Log.{NoCollision}
 use Rattle.group_model.specs.Run.{Enclaves, World, enclaves, group_after, run, empty_world}
 use Rattle.trace_model.specs.Limits.{passed_before, passed_after}
-use Rattle.trace_model.specs.Trace.{Playing, playing, counted, happened_text, within_limits, happened, tried, played, settled, expanded, said, record_played}
+use Rattle.trace_model.specs.Trace.{playing, counted, happened_text, within_limits, happened, tried, played, expanded}
 use Rattle.part_laws.specs.Named.{AreNamed, played_from, with_enclaves, PlayedCallsAreNamed, ScheduleCallsAreNamed}
 use Rattle.event_walk.proofs.Walk.{unbroken}
+use Rattle.play_walk.proofs.Ends.{Ends, any_read}
+use Rattle.play_walk.proofs.Played as play
+use Rattle.play_walk.proofs.Played.{Play, fine_read}
 use Rattle.part_laws.proofs.Handed.{calls_are_named}
 
--- ---- what holds where each piece ends
-
-module _ {S : Type 0} (Good : S → Type 0) where
-  abbrev pub Ends : Written S → Type 0
-  Ends x = Good (last_of x)
-
-  onto_ends : (text : List ℕ) (x : Written S) → Ends x → Ends (onto text x)
-  onto_ends text (On more p) h = h
-  onto_ends text (Off more stop p) h = h
-
-  pub follow_ends : (x : Written S) (next : S → Written S) → Ends x → ((p : S) → Good p → Ends (next p)) → Ends (follow x next)
-  follow_ends (On text p) next h later = onto_ends text (next p) (later p h)
-  follow_ends (Off text stop p) next h later = h
-
-  pub all_end : {A : Type 0} (piece : S → A → Written S) → ((p : S) (a : A) → Good p → Ends (piece p a)) → (p : S) (xs : List A) → Good p → Ends (all_written piece p xs)
-  unfolding all_written
-  all_end piece each p [] h = h
-  all_end piece each p (a ∷ rest) h = follow_ends (piece p a) (λ q. all_written piece q rest) (each p a h) (λ q good. all_end piece each q rest good)
-
 module _ (link : Link) where
-  abbrev pub Play : Type 0
-  Play = Playing Message Enclaves
-
   abbrev pub IsOfRun : World → Type 0
   IsOfRun w = (events : List Event) × (w ≡ run link events)
 
@@ -83,30 +60,19 @@ module _ (link : Link) where
     played_ends = tried_ends (passed_before p.group e)
 
   -- ---- all of them
-  settled_ends : (n : ℕ) (p : Play) → Stands p → Ends Stands (settled (enclaves link) n p)
-  settled_ends zero p good = good
-  settled_ends (suc n) p good = by_next (settled_ends n) (next_message p.group)
-    where
-      by_next : ((q : Play) → Stands q → Ends Stands (settled (enclaves link) n q)) → (o : Option ℕ) → Ends Stands (elim o [ None ↦ On [] p | Some k ↦ follow (played (enclaves link) p (event.Deliver k)) (settled (enclaves link) n) ])
-      by_next rest None = good
-      by_next rest (Some k) = follow_ends Stands (played (enclaves link) p (event.Deliver k)) (settled (enclaves link) n) (played_ends p good (event.Deliver k)) rest
-
-  pub expanded_ends : (p : Play) (e : Event) → Stands p → Ends Stands (expanded (enclaves link) p e)
-  expanded_ends p (event.Settle n) good = settled_ends n p good
-  expanded_ends p e good = played_ends p good e
+  abbrev Any : World → Event → Type 0
+  Any g e = Unit {0}
 
   pub counted_stands : (p : Play) → Stands p → Stands (counted p)
   counted_stands p good = record { group = good.group; stands = good.stands }
 
-  said_ends : (p : Play) (r : Result (Option Event) RecordFault) → Stands p → Ends Stands (said (enclaves link) p r)
-  said_ends p (Ok None) good = counted_stands p good
-  said_ends p (Ok (Some e)) good = expanded_ends (counted p) e (counted_stands p good)
-  said_ends p (Err fault) good = good
+  pub expanded_ends : (p : Play) (e : Event) → Stands p → Ends Stands (expanded (enclaves link) p e)
+  expanded_ends p e good = play.expanded_keeps link Stands Any (λ p good e fine. played_ends p good e) (λ p k good is. tt) counted_stands p e (fine_read Any p.group e tt) good
 
   played_stands : (records : List Record) → Stands (played_from link records)
   played_stands records =
-      all_end Stands (record_played (enclaves link)) (λ p fields good. said_ends p (event_of false (is_some p.group.setup) fields) good) (playing empty_world) records
-      (record { group = ([], refl); stands = ([], refl) })
+      play.records_keep link Stands Any (λ p good e fine. played_ends p good e) (λ p k good is. tt) counted_stands (λ g fields. any_read _ (λ e. fine_read Any g e tt) (event_of false (is_some g.setup) fields))
+      (playing empty_world) (record { group = ([], refl); stands = ([], refl) }) records
 
   -- no two inputs collide in that run either
   pub of_run : (w : World) (f : Enclaves) → AreOfRun f → NoCollision link (with_enclaves w f) → AreNamed link f
