@@ -121,8 +121,16 @@ impl Enclave {
         };
         let called = running.call(input, out);
         if let Err(EnclaveFault::Memory) = called {
-            self.state = None;
+            spend(&mut self.state);
         }
         called
     }
+}
+
+/// Gives up what a spent enclave kept, apart from a call that goes well, which so takes no room for it.
+#[inline(never)]
+fn spend(state: &mut Option<Running>)
+    ensures { state.new ≡ None }
+{
+    *state = None;
 }

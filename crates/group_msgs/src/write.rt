@@ -13,10 +13,12 @@ use byteorder::{BigEndian, ByteOrder};
 use group_quorum::MAX_VOTERS;
 use proto_wire::FieldWriter;
 use std::alloc::Global;
-use values::{Body, Bytes, Kept, LogEntry, Memory, PeerMsg, Point, Row, TablePart};
+use values::{Body, Bytes, Kept, LogEntry, Memory, PeerMsg, Point, ROWS_PER_PART, Row, TablePart};
 
-/// Room for a member of sixteen backups, so that one allocation serves.
-const MEMBER_ROOM: usize = 2048;
+/// Room for the fields of a member beside its entries or rows.
+const MEMBER_ROOM: usize = 96;
+/// Room for a listed entry or row of most sizes.
+const LISTED_ROOM: usize = 128;
 /// Room for an entry or a row.
 const ITEM_ROOM: usize = 192;
 
@@ -40,13 +42,23 @@ fn peer_bytes(alloc: Global, msg: &PeerMsg) -> Result<Vec<u8>, proto_wire::Memor
     ensures bytes { IfOk result (λ bytes. bytes.items ≡ canonical.canonical_peer msg.now) }
     ensures fits { OnOk result (FitsPeer msg.now) }
 {
-    let mut fields = FieldWriter::with_capacity(alloc, MEMBER_ROOM)?;
+    let mut fields = FieldWriter::with_capacity(alloc, member_room(msg))?;
     put_member(alloc, &mut fields, msg)?;
     let member = fields.finish();
     let mut message = FieldWriter::with_capacity(alloc, member.len() + 32)?;
     message.varint(1, term_of(msg))?;
     message.message(member_number(msg) as u32, &member)?;
     Ok(message.finish())
+}
+
+/// Room for the fields of a member, so that one allocation mostly serves, and a short message takes a small block.
+fn member_room(msg: &PeerMsg) -> usize {
+    let listed = match msg {
+        PeerMsg::Append { entries, .. } => entries.len(),
+        PeerMsg::Part { part, .. } => part.rows.len(),
+        _ => 0,
+    };
+    MEMBER_ROOM + LISTED_ROOM * listed.min(ROWS_PER_PART as usize)
 }
 
 fn term_of(msg: &PeerMsg) -> u64

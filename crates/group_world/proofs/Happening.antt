@@ -1,5 +1,5 @@
 -- From a call to an event that happens: on every understanding at once.
-use Rattle.std.proofs.Common.{refl, sym, ap, subst, ◌∙◌, ◌≡◌, ℕ, not, Bool, true, false, is_some, List, [], ◌∷◌, ◌++◌, Option, Some, None, Result, Ok, Err, inl, inr, append-nil}
+use Rattle.std.proofs.Common.{refl, sym, ap, subst, ◌∙◌, ◌≡◌, ℕ, not, Bool, true, false, is_some, List, [], ◌∷◌, ◌++◌, Option, Some, None, Result, Ok, Err, inl, inr, Box, Global, append-nil}
 use Rattle.std.specs.Prelude.{IfSome, IsSome, IsSomeAnd}
 use Rattle.std.proofs.lemmas.Bool.{cases_eq}
 use Rattle.group_quorum.specs.Voters.{is_in}
@@ -57,14 +57,14 @@ module _ (w : World) (map map' : Option Map) (r : ℕ) (bytes : List ℕ) where
       ap (λ (b : Bool). happening.refused_if (model_of m) (not b) (refusals.NotRunning r) g (happening.calls (model_of m) r input)) is
 
   -- it answers by a batch, which is kept
-  pub replied_does : (w' : World) (content : List ℕ) (batch : Batch) (frames : List (List ℕ)) → is_in w.running.items r ≡ true → WhereTold map map' (λ was now. Calling was now r bytes content × SameBut was now r)
-      → IsBatch content batch frames → Keeps w w' r batch frames → Does (Tells r bytes) w w' map map' (Content content ∷ []) (Ok (came.Replied r batch))
+  pub replied_does : (w' : World) (content : List ℕ) (batch : Box Batch Global) (frames : List (List ℕ)) → is_in w.running.items r ≡ true → WhereTold map map' (λ was now. Calling was now r bytes content × SameBut was now r)
+      → IsBatch content batch.value frames → Keeps w w' r batch.value frames → Does (Tells r bytes) w w' map map' (Content content ∷ []) (Ok (came.Replied r batch))
   replied_does w' content batch frames runs stepped read kept = λ m later g x sees what named.
       let (input, says, it) = what in
       let is = it ∙ called_is m g input runs sees.world in
       let ask = named_ask m map (Content content) later g.field r input sees.field (named_reply m r g ((model_of m).call g.field r input) (subst (IsNamedIn m) is named)) in
-      let a = call_answers m later g.field map map' r bytes content input batch frames sees.field says ask stepped read in (
-        keeps g r batch a.sent a.after,
+      let a = call_answers m later g.field map map' r bytes content input batch.value frames sees.field says ask stepped read in (
+        keeps g r batch.value a.sent a.after,
         is ∙ ap (happening.replied (model_of m) r g) a.answers,
         record { world = kept m g a.sent a.after sees.world a.are; field = a.fits },
       )

@@ -1,6 +1,6 @@
 -- The newest answer to a number of a client, in the world and in the groups that it stands for.
 use Rattle.std.proofs.lemmas.List.{drop_all, length-drop, take_all}
-use Rattle.std.proofs.Common.{arith, ◌-◌, ◌≤◌, take, refl, sym, ap, subst, ◌∙◌, ◌≡◌, ℕ, zero, suc, ◌+◌, Bool, true, false, if◌then◌else◌, List, [], ◌∷◌, drop, fold, length, Option, Some, None, option_map}
+use Rattle.std.proofs.Common.{arith, ◌-◌, ◌≤◌, take, refl, sym, ap, ◌∙◌, ◌≡◌, ℕ, zero, suc, ◌+◌, Bool, true, false, if◌then◌else◌, List, [], ◌∷◌, drop, fold, length, Option, Some, None, option_map}
 use Rattle.std.specs.Prelude.{◌==◌, ◌&&◌}
 use Rattle.std.specs.List.{enumerate_from}
 use Rattle.values.specs.declared.ids.ClientId.{ClientId}

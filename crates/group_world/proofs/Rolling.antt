@@ -1,5 +1,5 @@
 -- A replica ends, or goes back to a state that was saved.
-use Rattle.std.proofs.Common.{refl, sym, ap, subst, ◌∙◌, ◌≡◌, ◌≢◌, ℕ, ◌==◌, ◌||◌, cond, not, Bool, true, false, is_some, is_none, List, [], ◌∷◌, ◌++◌, Option, Some, None, Ok, Err, inl, inr, Vec, Global}
+use Rattle.std.proofs.Common.{refl, sym, ap, subst, ◌∙◌, ◌≡◌, ◌≢◌, ℕ, ◌==◌, ◌||◌, cond, not, Bool, true, false, is_some, is_none, List, [], ◌∷◌, ◌++◌, Option, Some, None, Ok, Err, inl, inr, Vec, Box, Global}
 use Rattle.std.specs.Prelude.{nat_le}
 use Rattle.std.proofs.lemmas.Bool.{cases_eq, cond_both, eq-eqb, ne_eqb}
 use Rattle.group_quorum.specs.Voters.{is_in}
@@ -202,12 +202,12 @@ snoc_in (x ∷ ids) r v = ap (λ (b : Bool). (x == v) || b) (snoc_in ids r v) �
     or_swap false true c = refl
     or_swap false false c = refl
 
-module _ (w : World) (r : ℕ) (batch : Batch) where
-  pub notes_none : is_none batch.refused ≡ false → NotesRoll w w (came.Replied r batch)
+module _ (w : World) (r : ℕ) (batch : Box Batch Global) where
+  pub notes_none : is_none batch.value.refused ≡ false → NotesRoll w w (came.Replied r batch)
   notes_none refused = λ m g world.
       subst (IsWorld (SaysMessage m) w) (sym (ap (λ (b : Bool). cond b (record g { rolled = r ∷ g.rolled }) g) refused)) world
 
-  pub notes_one : (v : Vec ℕ Global) (h : IsRoster w.begun w.running.items w.started.items) → is_none batch.refused ≡ true → v.items ≡ w.rolled.items ++ r ∷ [] → NotesRoll w (record w { rolled = v; roster = h }) (came.Replied r batch)
+  pub notes_one : (v : Vec ℕ Global) (h : IsRoster w.begun w.running.items w.started.items) → is_none batch.value.refused ≡ true → v.items ≡ w.rolled.items ++ r ∷ [] → NotesRoll w (record w { rolled = v; roster = h }) (came.Replied r batch)
   notes_one v h taken pushed = λ m g old.
       subst (IsWorld (SaysMessage m) (record w { rolled = v; roster = h })) (sym (ap (λ (b : Bool). cond b (record g { rolled = r ∷ g.rolled }) g) taken))
       (record {

@@ -1,5 +1,5 @@
 -- The newest answer to a number of a client, among answers as the world keeps them, and as a group does.
-use Rattle.std.specs.Prelude.{ℕ, ◌+◌, ◌==◌, ◌&&◌, if◌then◌else◌, Bool, List, drop, fold, Option, Some, None, option_map}
+use Rattle.std.specs.Prelude.{ℕ, ◌+◌, ◌==◌, ◌&&◌, if◌then◌else◌, List, drop, fold, Option, Some, None, option_map}
 use Rattle.std.specs.List.{enumerate_from}
 use Rattle.values.specs.declared.ids.ClientId.{ClientId}
 use Rattle.values.specs.declared.message.Answer.{Answer}

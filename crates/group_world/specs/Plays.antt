@@ -1,5 +1,6 @@
 -- What became of an event, on each understanding of what the field answered.
-use Rattle.std.specs.Prelude.{ℕ, ◌≡◌, map, nat_lt, true, List, [], ◌∷◌, ◌++◌, length, Option, Result, Ok, Err}
+use Rattle.std.specs.Prelude.{ℕ, ◌≡◌, map, nat_lt, true, List, [], ◌∷◌, ◌++◌, length, Option, Result, Ok, Err, Box}
+use Rattle.std.specs.Global.{Global}
 use Rattle.values.specs.declared.batch.Batch.{Batch}
 use Rattle.values.specs.declared.event.Event.{Event}
 use Rattle.values.specs.declared.limits.TheConstants.{MAX_ANSWERS, MAX_CLIENTS, MAX_MESSAGES, MAX_STATES}
@@ -34,7 +35,7 @@ use Rattle.group_world.specs.Standing.{IsWorld, Sees}
 
 abbrev pub came_of : code.Came → Came
 came_of (came.Refused r) = Refused (meant r)
-came_of (came.Replied r batch) = Replied r batch
+came_of (came.Replied r batch) = Replied r batch.value
 came_of (came.Reported client report) = Reported client report
 came_of came.Passed = Passed
 
@@ -66,9 +67,9 @@ pub record IsCalled (map map' : Option Map) (told told' : Option (List (List ℕ
   pub stepped : WhereTold map map' (λ was now. Calling was now id input content × SameBut was now id)
 
 -- it was answered by a batch, or by what is none, or not at all
-abbrev pub Calls : Option Map → Option Map → Option (List (List ℕ)) → Option (List (List ℕ)) → ℕ → List ℕ → Result (Batch × List (List ℕ)) Unplayed → Type 0
+abbrev pub Calls : Option Map → Option Map → Option (List (List ℕ)) → Option (List (List ℕ)) → ℕ → List ℕ → Result (Box Batch Global × List (List ℕ)) Unplayed → Type 0
 Calls map map' told told' id input (Ok (batch, frames)) =
-    (content : List ℕ) × IsCalled map map' told told' id input content × IsBatch content batch frames
+    (content : List ℕ) × IsCalled map map' told told' id input content × IsBatch content batch.value frames
 Calls map map' told told' id input (Err (unplayed.Frame at)) =
     (content : List ℕ) × IsCalled map map' told told' id input content × (batch_of content ≡ Err at)
 Calls map map' told told' id input (Err unplayed.FieldFault) = Gains told told' []

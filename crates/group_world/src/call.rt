@@ -28,13 +28,14 @@ pub(crate) fn content_of(alloc: Global, input: &HostIn<'_>) -> Result<Bytes, Mem
     write_host(alloc, input)
 }
 
-/// Calls a replica that runs, and reads the batch that it leaves, with the frames of its messages.
+/// Calls a replica that runs, and reads the batch that it leaves, with the frames of its messages. The batch is large, so it
+/// goes from here on in a box.
 pub(crate) fn call<F: Field>(
     alloc: Global,
     id: ReplicaId,
     input: &[u8],
     field: &mut F,
-) -> Result<(Batch, FrameList), Unplayed>
+) -> Result<(Box<Batch>, FrameList), Unplayed>
     requires { IfSome (F.map field.old) (λ was. IsSome (was id) × IsInput input.now) }
     ensures calls { Calls (F.map field.old) (F.map field.new) (F.answers field.old) (F.answers field.new) id input.now result }
     ensures cause { HasCauseAt Unplayed.FieldFault (F.faults field.old) (F.faults field.new) result }
@@ -48,7 +49,10 @@ pub(crate) fn call<F: Field>(
         Err(FieldFault::Failed) => return Err(Unplayed::FieldFault),
     }
     match read_batch(alloc, out.as_slice()) {
-        Ok((_sender, batch, frames)) => Ok((batch, frames)),
+        Ok((_sender, batch, frames)) => match Box::new(alloc, batch) {
+            Ok(batch) => Ok((batch, frames)),
+            Err(_) => Err(Unplayed::Memory),
+        },
         Err(BatchFault::Memory) => Err(Unplayed::Memory),
         Err(BatchFault::At(at)) => Err(Unplayed::Frame(at)),
     }

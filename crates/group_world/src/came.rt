@@ -11,7 +11,7 @@ pub(crate) enum Came {
     /// The group refused it.
     Refused(GroupRefusal),
     /// A replica was called and left this batch.
-    Replied(ReplicaId, Batch),
+    Replied(ReplicaId, Box<Batch>),
     /// A client reports what became of its want.
     Reported(ClientId, Report),
     /// It was played, and there is nothing to tell.

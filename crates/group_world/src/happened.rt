@@ -60,6 +60,7 @@ impl Happened {
         match came {
             Came::Refused(_) => happened.refused = true,
             Came::Replied(_, batch) => {
+                let batch = Box::into_inner(batch);
                 happened.halted = batch.halt.is_some();
                 happened.answers.answers = batch.answers;
             }

@@ -2,7 +2,7 @@
 ghost use Rattle.std.specs.Prelude.{◌≡◌, ◌≤◌, ◌↔◌, [], IsSome, IsTrue, None, Some, Err};
 ghost use Rattle.byte_streams.specs.Causes.{HasCauseAt, Rose};
 ghost use Rattle.byte_streams.specs.InMemory.{is_listed};
-ghost use Rattle.enclave_host.specs.Fields.{Calling, Gains, GivesContent, IsHelloFor, IsInput, Outcome, Starting, WhereTold};
+ghost use Rattle.enclave_host.specs.Fields.{Calling, Gains, GivesContent, IsHelloFor, IsInput, Outcome, SameBut, Starting, WhereTold};
 ghost use Rattle.group_world.specs.Scripts.{counted, fresh, map_of};
 
 use enclave_host::{Enclave, Field, FieldFault};
@@ -38,6 +38,15 @@ impl LocalField {
             running: BTreeMap::new(alloc),
         }
     }
+
+    /// Takes an enclave away, apart from a call that goes well, which so takes no room for it.
+    #[inline(never)]
+    fn take_away(&mut self, id: ReplicaId)
+        ensures none { map_of self.new id ≡ None }
+        ensures others { SameBut (map_of self.old) (map_of self.new) id }
+    {
+        self.running.remove(&id);
+    }
 }
 
 impl Field for LocalField {
@@ -68,12 +77,12 @@ impl Field for LocalField {
             return Ok(());
         }
         // The enclave is spent, since it refuses an input for want of memory alone.
-        self.running.remove(&id);
+        self.take_away(id);
         Err(FieldFault::Memory)
     }
 
     fn stop(&mut self, id: ReplicaId) -> Result<(), FieldFault> {
-        self.running.remove(&id);
+        self.take_away(id);
         Ok(())
     }
 }

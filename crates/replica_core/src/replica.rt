@@ -8,6 +8,7 @@ ghost use Rattle.replica_model.specs.Call as model_call;
 ghost use Rattle.replica_model.specs.Call.{empty_batch};
 ghost use Rattle.replica_model.specs.Step.{step};
 ghost use Rattle.replica_core.specs.Standing.{StandsFor, IsSpent, HoldsLog};
+ghost use Rattle.replica_core.specs.declared.replica.State.TheVariants as kept;
 ghost use Rattle.replica_core.specs.Inputs.{IsInput, IsInputInRange};
 ghost use Rattle.group_msgs.specs.Batches.{IsBatchInRange};
 ghost use Rattle.replica_core.specs.Ranges.{IsStepBatch};
@@ -130,7 +131,7 @@ impl Replica {
         match self.state.step(input, batch) {
             Ok(()) => Ok(()),
             Err(Memory) => {
-                self.state = State::Spent;
+                spend(&mut self.state);
                 Err(StepFault::Memory)
             }
         }
@@ -177,14 +178,39 @@ impl State {
         ensures holds { OnOk result (HoldsLog self.old → HoldsLog self.new) }
     {
         match self {
-            State::Learner(learner) => {
-                if let Some(holder) = learner.step(input, batch)? {
-                    *self = State::Holder(holder);
-                }
-                Ok(())
-            }
+            State::Learner(_) => self.learn(input, batch),
             State::Holder(holder) => holder.step(input, batch),
             State::Spent => Ok(()),
         }
     }
+
+    /// Takes a step of what holds no log, apart from that of a holder, which so takes no room for one that a learner becomes.
+    #[inline(never)]
+    fn learn(&mut self, input: &Input<'_>, batch: &mut Batch) -> Result<(), Memory>
+        requires learns { ¬ (HoldsLog self.old) }
+        requires sound { IsSoundState self.old }
+        requires range { IsInputInRange input.now }
+        requires empty { batch.old ≡ empty_batch }
+        ensures sound { OnOk result (IsSoundState self.new) }
+        ensures model { (s : model.Replica) (i : told.Input) → StandsFor self.old s → IsInput s input.now i
+            → OnOk result (StandsFor self.new (step sha_link s i).state × (batch.new ≡ (step sha_link s i).batch)) }
+        ensures in_range { IsStateInRange self.old → IsStepBatch batch.old
+            → OnOk result (IsStateInRange self.new × IsStepBatch batch.new) }
+        ensures goes_on { ¬ (IsSpent self.old) → OnOk result (¬ (IsSpent self.new)) }
+    {
+        if let State::Learner(learner) = self {
+            if let Some(holder) = learner.step(input, batch)? {
+                *self = State::Holder(holder);
+            }
+        }
+        Ok(())
+    }
+}
+
+/// Gives up what a spent replica kept, apart from a step that goes well, which so takes no room for it.
+#[inline(never)]
+fn spend(state: &mut State)
+    ensures { state.new ≡ kept.Spent }
+{
+    *state = State::Spent;
 }

@@ -1,5 +1,5 @@
 //! The answer to one frame.
-ghost use Rattle.std.specs.Prelude.{◌≡◌, ◌+◌, ◌++◌, ◌<◌, ◌≤◌, ℕ, Option, length, drop, OnOk};
+ghost use Rattle.std.specs.Prelude.{◌≡◌, ◌+◌, ◌++◌, ◌<◌, ◌≤◌, ℕ, List, None, Option, length, drop, OnOk};
 ghost use Rattle.std.specs.Int.{w32, to_be_bytes};
 ghost use Rattle.values.specs.declared.entry.Point.{Point};
 ghost use Rattle.replica_model.specs.Replica.{Named};
@@ -124,12 +124,22 @@ fn hand(
 {
     match enclave {
         Some(running) => running.call(content, out),
-        None => match Enclave::start(alloc, content) {
-            Ok(started) => {
-                *enclave = Some(started);
-                Ok(())
-            }
-            Err(why) => Err(why),
-        },
+        None => begin(alloc, enclave, content),
+    }
+}
+
+/// Starts the enclave by the first content, apart from a later call, which so takes no room for an enclave that is started.
+#[inline(never)]
+fn begin(alloc: Global, enclave: &mut Option<Enclave>, content: &[u8]) -> Result<(), EnclaveFault>
+    requires none { enclave.old ≡ None }
+    ensures hands { (tagging : Tagging) (names : Point → Named) (before : Option model.Enclave) (out : List ℕ) → Stands enclave.old before
+        → Hands tagging names before content.now enclave.new out out result }
+{
+    match Enclave::start(alloc, content) {
+        Ok(started) => {
+            *enclave = Some(started);
+            Ok(())
+        }
+        Err(why) => Err(why),
     }
 }

@@ -15,6 +15,11 @@ pub fn push_number(line: &mut Vec<u8>, number: u64) -> Result<(), AllocError>
     ensures ok { OnOk result (line.new.items ≡ line.old.items ++ decimal number) }
     ensures err { OnErr result (line.new.items ≡ line.old.items) }
 {
+    // Ids and terms mostly have one digit.
+    if number < 10 {
+        line.push(b'0' + number as u8)?;
+        return Ok(());
+    }
     let mut buffer = Buffer::new();
     line.extend_from_slice(buffer.format(number).as_bytes())
 }

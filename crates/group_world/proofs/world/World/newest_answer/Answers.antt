@@ -1,6 +1,5 @@
-use Rattle.std.proofs.Common.{ℕ, length, arith, ap, sym, ◌∙◌, ◌+◌, None, Bor, inl, inr, option_map}
+use Rattle.std.proofs.Common.{ℕ, length, arith, ap, ◌∙◌, ◌+◌, None, Bor, inl, inr, option_map}
 use Rattle.std.specs.List.{enumerate_from}
-use Rattle.std.proofs.lemmas.Result.{err_from_is_err_and}
 use Rattle.values.specs.declared.message.Answer.{Answer}
 use Rattle.group_world.specs.Newest.{last_kept}
 use Rattle.group_world.proofs.NewestAnswer.{all_after, kept_after, newest_so, none_after}

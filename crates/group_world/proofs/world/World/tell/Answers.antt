@@ -12,7 +12,7 @@ returns-in-Err-clause-does g c = stopped_does _ _ _ c.args.id c.args.input.now c
 pub returns-in-Ok-keep-clause-does : goal.returns-in-Ok-keep-clause-does
 returns-in-Ok-keep-clause-does g c =
     let (content, called, read) = c.in-Ok.ensures.calls in
-    (Content content ∷ [], called.gained, replied_does _ _ _ c.args.id c.args.input.now _ content c.in-Ok.read.0 c.in-Ok.read.1 (sym c.runs.ensures ∙ c.if-not-runs.false) called.stepped read c.in-Ok-keep.ensures.keeps)
+    (Content content ∷ [], called.gained, replied_does _ _ _ c.args.id c.args.input.now _ content c.in-Ok.read.0 c.in-Ok.read.1 (sym c.runs.ensures ∙ c.if-not-runs.false) called.stepped read (rw c.deref.ensures at c.in-Ok-keep.ensures.keeps))
 
 pub returns-in-Ok-keep-clause-runs : goal.returns-in-Ok-keep-clause-runs
 returns-in-Ok-keep-clause-runs g c =
