@@ -8,41 +8,36 @@ use record_rules::status::{ERROR, MISSING, OK, PIN_MISMATCH};
 use std::alloc::Global;
 use values::{Bytes, Hash, Kept, Memory, Request, Response, TryCopy};
 
-/// What a request makes of a record that may be there, and its response.
+/// What a request makes of a record that may be there, and its response. A backup's secret moves into the change.
 pub fn outcome(
     alloc: Global,
-    request: &Request,
+    request: Request,
     kept: Option<&Kept>,
 ) -> Result<(Change, Response), Memory>
-    ensures { IfOk result (IsOutcome request.now (option_copied kept.entry)) }
+    ensures { IfOk result (IsOutcome request (option_copied kept.entry)) }
 {
     match request {
-        Request::Backup { secret, pin, tries } => back_up(alloc, secret, *pin, *tries),
+        Request::Backup { secret, pin, tries } => Ok(back_up(secret, pin, tries)),
         Request::Restore { pin } => match kept {
-            Some(kept) => restore(alloc, pin, kept),
+            Some(kept) => restore(alloc, &pin, kept),
             None => Ok((Change::Stay, missing(alloc))),
         },
         Request::Delete => Ok((Change::Forget, Response::Delete)),
-        Request::Expose { secret } => Ok(expose(secret, kept)),
+        Request::Expose { secret } => Ok(expose(&secret, kept)),
     }
 }
 
 /// A backup takes the place of the record: unexposed, with all its tries.
-fn back_up(
-    alloc: Global,
-    secret: &Bytes,
-    pin: Hash,
-    tries: u32,
-) -> Result<(Change, Response), Memory>
-    ensures { IfOk result (λ done. (kept : Option KeptRecord) → IsOutcome (Request.Backup secret.now pin tries) kept done) }
+fn back_up(secret: Bytes, pin: Hash, tries: u32) -> (Change, Response)
+    ensures { (kept : Option KeptRecord) → IsOutcome (Request.Backup secret pin tries) kept result }
 {
     let kept = Kept {
-        secret: secret.copy(alloc)?,
+        secret,
         pin,
         left: tries,
         exposed: false,
     };
-    Ok((Change::Keep(kept), Response::Backup { status: OK }))
+    (Change::Keep(kept), Response::Backup { status: OK })
 }
 
 /// A restore gives the secret of an exposed record to who knows its PIN; another PIN takes one try.
@@ -98,4 +93,22 @@ fn refused(alloc: Global, status: u32, tries: u32) -> Response
         secret: Bytes::from(Vec::new(alloc)),
         tries,
     }
+}
+
+/// An equal request.
+pub fn copied_request(alloc: Global, request: &Request) -> Result<Request, Memory>
+    ensures { IfOk result (λ copy. copy ≡ request.now) }
+{
+    Ok(match request {
+        Request::Backup { secret, pin, tries } => Request::Backup {
+            secret: secret.copy(alloc)?,
+            pin: *pin,
+            tries: *tries,
+        },
+        Request::Restore { pin } => Request::Restore { pin: *pin },
+        Request::Delete => Request::Delete,
+        Request::Expose { secret } => Request::Expose {
+            secret: secret.copy(alloc)?,
+        },
+    })
 }

@@ -1,7 +1,7 @@
 //! The record table over any store of rows.
 
 use crate::change::Change;
-use crate::rules::outcome;
+use crate::rules::{copied_request, outcome};
 use crate::store::RowStore;
 use crate::tree::TreeRows;
 use std::alloc::Global;
@@ -89,6 +89,23 @@ impl<T: RowStore> TableOver<T> {
         ensures table { OnOk result (self.new ≡ (apply self.old client.now number request.now).0) }
         ensures err { OnErr result (self.new ≡ self.old) }
     {
+        let request = copied_request(self.alloc, request)?;
+        self.apply_owned(client, number, request)
+    }
+
+    /// The same over a request that the caller is done with: the secret of a backup goes into the
+    /// row, and is not copied.
+    pub fn apply_owned(
+        &mut self,
+        client: &ClientId,
+        number: u64,
+        request: Request,
+    ) -> Result<Reply, Memory>
+        requires { IsValid request }
+        ensures reply { IfOk result (λ reply. reply ≡ (apply self.old client.now number request).1) }
+        ensures table { OnOk result (self.new ≡ (apply self.old client.now number request).0) }
+        ensures err { OnErr result (self.new ≡ self.old) }
+    {
         match self.rows.find(client) {
             Some(row) => {
                 if number <= row.last {
@@ -108,12 +125,12 @@ impl<T: RowStore> TableOver<T> {
         &mut self,
         client: &ClientId,
         number: u64,
-        request: &Request,
+        request: Request,
     ) -> Result<Reply, Memory>
-        requires valid { IsValid request.now }
+        requires valid { IsValid request }
         requires unknown { IsNone (row_of self.old.rows client.now) }
-        ensures reply { IfOk result (λ reply. reply ≡ (ask_unknown self.old client.now number request.now).1) }
-        ensures table { OnOk result (self.new ≡ (ask_unknown self.old client.now number request.now).0) }
+        ensures reply { IfOk result (λ reply. reply ≡ (ask_unknown self.old client.now number request).1) }
+        ensures table { OnOk result (self.new ≡ (ask_unknown self.old client.now number request).0) }
         ensures err { OnErr result (self.new ≡ self.old) }
     {
         let is_backup = matches!(request, Request::Backup { .. });

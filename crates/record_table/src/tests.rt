@@ -48,7 +48,7 @@ fn row(alloc: Global, n: u16) -> Result<Row, Memory>
 /// A table in which client 1 has an exposed record of three tries.
 fn exposed(alloc: Global) -> Result<Table, Memory> {
     let mut table = Table::new(alloc, 10);
-    let _backed_up = table.apply(&client(1), 1, &backup(alloc)?)?;
+    let _backed_up = table.apply_owned(&client(1), 1, backup(alloc)?)?;
     let expose = Request::Expose {
         secret: Bytes::from_slice(alloc, &[0xaa; 16])?,
     };

@@ -57,7 +57,7 @@ fn push_outcome(
 {
     match read_request(alloc, ask.request.as_slice()) {
         Ok(request) => {
-            let reply = table.apply(&ask.client, ask.number, &request)?;
+            let reply = table.apply_owned(&ask.client, ask.number, request)?;
             push_reply(line, &reply)
         }
         Err(fault) => push_fault(line, fault),

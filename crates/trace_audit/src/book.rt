@@ -142,7 +142,7 @@ fn apply_body(alloc: Global, table: &mut Table, body: &Body) -> Result<Option<Re
         return Ok(None);
     };
     match read_request(alloc, request.as_slice()) {
-        Ok(request) => Ok(Some(table.apply(client, *number, &request)?)),
+        Ok(request) => Ok(Some(table.apply_owned(client, *number, request)?)),
         Err(RequestFault::Memory) => Err(Memory),
         Err(_) => Ok(None),
     }
