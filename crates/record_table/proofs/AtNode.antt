@@ -75,12 +75,6 @@ module _ (side : Side) (near far : Tree) (r row : Row) (ready : IsReady (forked_
   pub few_grew : growth ≡ Grew → length (rows_of (far_of side new)) + length (rows_of far) < MOST_ROWS
   few_grew is = few_at side near far r row ready way (tree_of new) (far_of side new) (is_grew is).0.rows shorter
 
-  pub inner_over : growth ≡ Over → IsBalanced (far_of side new)
-  inner_over is = (node_over side near row new (is_over is).0).inner_balanced
-
-  pub inner_grew : growth ≡ Grew → IsBalanced (far_of side new)
-  inner_grew is = (node_level side new (is_grew is).0.balanced).far_balanced
-
   pub at_counted : growth ≡ Counted → IsHigher 0 old row (forked_at side (tree_of new) r far)
   at_counted is = counted side near far r row ready way (tree_of new) (put_as Counted is)
 

@@ -112,7 +112,7 @@ module _ (side : Side) (near far : Tree) (r row : Row) (ready : IsReady (forked_
       let few = ready.few in omega arith
 
   -- the tree has so many levels more, where the tree on the row's side has so many more
-  pub higher : (by more : ℕ) (new : Tree) → IsHigher more near row new → levels_of new ≤ levels_of far + 1
+  higher : (by more : ℕ) (new : Tree) → IsHigher more near row new → levels_of new ≤ levels_of far + 1
       → max (levels_of new) (levels_of far) ≡ max (levels_of near) (levels_of far) + by → IsHigher by old row (forked_at side new r far)
   higher by more new put low levels =
       let e = put.levels in

@@ -57,8 +57,8 @@ IsOverAt side old row Empty = ⊥
 IsOverAt Left old row (Fork left middle right size levels) = IsOver old row (Fork left middle right size levels) left right
 IsOverAt Right old row (Fork left middle right size levels) = IsOver old row (Fork left middle right size levels) right left
 
--- the tree is the old one with the row of a new client, as the growth says and the node above allows: of one whose higher side
--- the tree is, it may not have a level more
+-- the tree is the old one with the row of a new client, as the growth says and the node above allows: as the higher side of that one
+-- it may not have a level more
 abbrev pub IsPut : Option Side → Growth → Tree → Row → Tree → Type 0
 IsPut above Counted old row whole = IsHigher 0 old row whole
 IsPut None Grew old row whole = IsHigher 1 old row whole

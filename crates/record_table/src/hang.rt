@@ -1,4 +1,4 @@
-//! A row more at a node that has no tree on the row's side.
+//! A row more beside one that has no tree on that side.
 ghost use Rattle.std.specs.Prelude.{◌≡◌, IfOk, OnErr};
 ghost use Rattle.record_rules.specs.Clients.{client_cmp};
 ghost use Rattle.record_table.specs.Trees.{tree_under, IsReady};
@@ -11,7 +11,7 @@ use std::alloc::Global;
 use std::rc::Rc;
 use values::{Memory, Row};
 
-/// Hangs the row in as this side of a node, which has the other one. After `Memory` all is as before.
+/// Hangs the row in as the tree on this side of a row. After `Memory` all is as before.
 pub fn hang(
     alloc: Global,
     side: Side,

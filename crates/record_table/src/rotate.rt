@@ -11,7 +11,7 @@ use std::mem;
 use std::rc::Rc;
 use values::Row;
 
-/// A node's side of this kind takes the node's row and the node's other side, and leaves its own row and its own outer side there.
+/// A node's side takes the node's row and the node's other side, and leaves its own row and its own outer side there.
 /// Then it is the node's other side.
 #[inline(always)]
 pub fn turn(side: Side, low: &mut Node, row: &mut Rc<Row>, other: &mut Link)
