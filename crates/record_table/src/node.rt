@@ -100,7 +100,9 @@ pub fn copied(node: &Node) -> Result<Node, Memory>
     })
 }
 
-/// Puts a copy of its own in the place of a node that others hold too.
+/// Puts a copy of its own in the place of a node that others hold too. Each step of each way down calls it, and hardly ever
+/// finds such a node.
+#[inline(always)]
 pub fn unshare(alloc: Global, node: &mut Rc<Node>) -> Result<(), Memory>
     ensures { tree_of node.new.value ≡ tree_of node.old.value }
 {
