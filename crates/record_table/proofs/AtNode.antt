@@ -21,7 +21,7 @@ use Rattle.record_table.proofs.Nodes.{tree_out}
 use Rattle.record_table.proofs.Balanced.{size_is, levels_few}
 use Rattle.record_table.proofs.Around.{length-put_new}
 use Rattle.record_table.proofs.RowIn.{none_is}
-use Rattle.record_table.proofs.Growing.{length_at, node_rows, node_level, node_over, few_at, far_level, single, counted, leveled, grown, over, inner, turned}
+use Rattle.record_table.proofs.Growing.{length_at, node_rows, node_over, few_at, far_level, single, counted, leveled, grown, over, inner, turned}
 
 -- the node behind a link, after it was made the tree's own
 pub under_at : (link : Option (Rc Node Global)) (rc rc_too : Rc Node Global) (low : Node) → link ≡ Some rc → tree_of rc_too.value ≡ tree_of rc.value → low ≡ rc_too.value

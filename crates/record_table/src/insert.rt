@@ -122,6 +122,7 @@ fn put_at(
 }
 
 /// Writes down what a row more has made of the tree of a node.
+#[inline(always)]
 fn count(node: &mut Node, growth: Growth)
     requires size { size_of (tree_of node.old) < MOST_ROWS }
     requires levels { levels_of (tree_of node.old) < MOST_ROWS }
