@@ -1,110 +1,201 @@
--- A row of a new client, put into a side of a node: the node before and the tree after.
-use Rattle.std.proofs.Common.{◌≡◌, ℕ, ◌+◌, ◌<◌, ◌≤◌, sym, subst}
-use Rattle.std.specs.declared.cmp.Ordering.TheVariants.{Less, Greater}
+-- A row of a new client, put into the tree on a side of a row: what is known where the call below has returned.
+use Rattle.std.proofs.Common.{◌≡◌, ℕ, ◌+◌, ◌<◌, ◌≤◌, Bool, true, false, length, refl, sym, ap, subst, ◌∙◌, arith, nat_lt}
+use Rattle.std.specs.Prelude.{Option, Some, None, is_some}
+use Rattle.std.specs.Bool.{then_some}
+use Rattle.std.specs.declared.rc.Rc.{Rc}
+use Rattle.std.specs.declared.alloc.Global.{Global}
 use Rattle.values.specs.declared.row.Row.{Row}
+use Rattle.values.specs.declared.limits.TheConstants.{MOST_ROWS}
 use Rattle.record_rules.specs.Clients.{client_cmp}
+use Rattle.record_rules.specs.Table.{row_of}
 use Rattle.record_table.specs.declared.node.Node.{Node}
 use Rattle.record_table.specs.declared.node.Node.TheViews.{out-Node}
-use Rattle.record_table.specs.Trees.{Tree, tree_of, tree_under, levels_of, forked, IsReady}
-use Rattle.record_table.specs.Trees.Tree.{Fork}
-use Rattle.record_table.specs.Growths.{IsHigher, IsOverLeft, IsOverRight}
+use Rattle.record_table.specs.declared.growth.Side.{Side}
+use Rattle.record_table.specs.declared.growth.Side.TheVariants.{Left, Right}
+use Rattle.record_table.specs.declared.growth.Growth.{Growth}
+use Rattle.record_table.specs.declared.growth.Growth.TheVariants.{Counted, Grew, Over}
+use Rattle.record_table.specs.Trees.{Tree, rows_of, size_of, levels_of, tree_of, tree_under, forked, IsBalanced, IsReady}
+use Rattle.record_table.specs.Trees.Tree.{Empty, Fork}
+use Rattle.record_table.specs.Growths.{toward, near_of, far_of, forked_at, counted as count_growth, IsHigher, IsOver, IsOverAt, IsPut}
 use Rattle.record_table.proofs.Nodes.{tree_out}
-use Rattle.record_table.proofs.Growing.{counted_left, level_left, grown_left, over_left, inner_left, turned_left, counted_right, level_right, grown_right, over_right, inner_right, turned_right}
+use Rattle.record_table.proofs.Balanced.{size_is, levels_few}
+use Rattle.record_table.proofs.Around.{length-put_new}
+use Rattle.record_table.proofs.RowIn.{none_is}
+use Rattle.record_table.proofs.Growing.{length_at, node_rows, node_over, few_at, far_level, single, counted, leveled, grown, over, inner, turned}
 
-module _ (n : Node) (row : Row) (ready : IsReady (tree_of n) row.client) (less : client_cmp row.client (out-Node n).row.value.client ≡ Less) where
-  abbrev l_left : Tree
-  l_left = tree_under (out-Node n).left
+-- the node behind a link, after it was made the tree's own
+pub under_at : (link : Option (Rc Node Global)) (rc rc_too : Rc Node Global) (low : Node) → link ≡ Some rc → tree_of rc_too.value ≡ tree_of rc.value → low ≡ rc_too.value
+    → tree_under link ≡ tree_of low
+under_at link rc rc_too low is same at = ap tree_under is ∙ sym same ∙ ap tree_of (sym at)
 
-  abbrev t_left : Tree
-  t_left = tree_under (out-Node n).right
+pub shorter_at : (side : Side) (near far : Tree) (r : Row) → length (rows_of near) < length (rows_of (forked_at side near r far))
+shorter_at side near far r = let a = length_at side near far r in omega arith
 
-  abbrev m_left : Row
-  m_left = (out-Node n).row.value
+-- the tree below may have had a level more only where it was not the higher side
+grew_put : (b : Bool) (side : Side) (far low : ℕ) (old new : Tree) (row : Row) → nat_lt far low ≡ b → IsPut (then_some b side) Grew old row new → IsHigher 1 old row new × (low ≤ far)
+grew_put true side far low old new row is put = absurd put
+grew_put false side far low old new row is put = (put, grind arith)
 
-  pub opened_left : IsReady (Fork l_left m_left t_left (out-Node n).size (out-Node n).levels) row.client
-  opened_left = subst (λ u. IsReady u row.client) (tree_out n) ready
+over_put : (b : Bool) (side : Side) (far low : ℕ) (old new : Tree) (row : Row) → nat_lt far low ≡ b → IsPut (then_some b side) Over old row new → IsOverAt side old row new × (far < low)
+over_put true side far low old new row is put = (put, grind arith)
+over_put false side far low old new row is put = absurd put
 
-  pub at_counted_left : (new whole : Tree) → whole ≡ Fork new m_left t_left ((out-Node n).size + 1) (out-Node n).levels → IsHigher 0 l_left row new
-      → IsHigher 0 (tree_of n) row whole
-  at_counted_left new whole is put =
-      subst (λ u. IsHigher 0 u row whole) (sym (tree_out n))
-      (subst (IsHigher 0 (Fork l_left m_left t_left (out-Node n).size (out-Node n).levels) row) (sym is) (counted_left l_left t_left m_left row (out-Node n).size (out-Node n).levels opened_left less new put))
+module _ (side : Side) (near far : Tree) (r row : Row) (ready : IsReady (forked_at side near r far) row.client) (way : client_cmp row.client r.client ≡ toward side)
+    (low new : Node) (under : near ≡ tree_of low) (levels : ℕ) (levels_are : levels ≡ levels_of far)
+    (above : Option Side) (above_is : above ≡ then_some (nat_lt levels (out-Node low).levels) side)
+    (growth : Growth) (put : IsPut above growth (tree_of low) row (tree_of new)) where
+  abbrev old : Tree
+  old = forked_at side near r far
 
-  pub at_level_left : (new whole : Tree) → whole ≡ Fork new m_left t_left ((out-Node n).size + 1) (out-Node n).levels → IsHigher 1 l_left row new → levels_of new ≤ levels_of t_left
-      → IsHigher 0 (tree_of n) row whole
-  at_level_left new whole is put low =
-      subst (λ u. IsHigher 0 u row whole) (sym (tree_out n))
-      (subst (IsHigher 0 (Fork l_left m_left t_left (out-Node n).size (out-Node n).levels) row) (sym is) (level_left l_left t_left m_left row (out-Node n).size (out-Node n).levels opened_left less new put low))
+  level : levels_of near ≡ (out-Node low).levels
+  level = ap levels_of under ∙ ap levels_of (tree_out low)
 
-  pub at_grown_left : (new whole : Tree) → whole ≡ Fork new m_left t_left ((out-Node n).size + 1) ((out-Node n).levels + 1) → IsHigher 1 l_left row new → levels_of l_left ≤ levels_of t_left
-      → levels_of t_left < levels_of new → IsHigher 1 (tree_of n) row whole
-  at_grown_left new whole is put even high =
-      subst (λ u. IsHigher 1 u row whole) (sym (tree_out n))
-      (subst (IsHigher 1 (Fork l_left m_left t_left (out-Node n).size (out-Node n).levels) row) (sym is) (grown_left l_left t_left m_left row (out-Node n).size (out-Node n).levels opened_left less new put even high))
+  new_level : levels_of (tree_of new) ≡ (out-Node new).levels
+  new_level = ap levels_of (tree_out new)
 
-  pub at_over_left : (new whole : Tree) (s v : ℕ) → whole ≡ Fork new m_left t_left s v → IsHigher 1 l_left row new → levels_of l_left ≤ levels_of t_left → levels_of t_left < levels_of new
-      → IsOverLeft (tree_of n) row whole
-  at_over_left new whole s v is put even high =
-      subst (λ u. IsOverLeft u row whole) (sym (tree_out n))
-      (subst (IsOverLeft (Fork l_left m_left t_left (out-Node n).size (out-Node n).levels) row) (sym is) (over_left l_left t_left m_left row (out-Node n).size (out-Node n).levels opened_left less new s v put even high))
+  put_as : (g : Growth) → growth ≡ g → IsPut (then_some (nat_lt levels (out-Node low).levels) side) g near row (tree_of new)
+  put_as g is =
+      subst (λ t. IsPut (then_some (nat_lt levels (out-Node low).levels) side) g t row (tree_of new)) (sym under)
+      (subst (λ s. IsPut s g (tree_of low) row (tree_of new)) above_is (subst (λ h. IsPut above h (tree_of low) row (tree_of new)) is put))
 
-  pub at_inner_left : (a b whole : Tree) (q : Row) (s_low v_low s v : ℕ) → whole ≡ Fork a q (forked b m_left t_left) s v → IsHigher 1 l_left row (Fork a q b s_low v_low)
-      → levels_of l_left ≤ levels_of t_left → levels_of t_left < v_low → IsOverRight (tree_of n) row whole
-  at_inner_left a b whole q s_low v_low s v is put even high =
-      subst (λ u. IsOverRight u row whole) (sym (tree_out n))
-      (subst (IsOverRight (Fork l_left m_left t_left (out-Node n).size (out-Node n).levels) row) (sym is) (inner_left l_left t_left m_left row (out-Node n).size (out-Node n).levels opened_left less a b q s_low v_low s v put even high))
+  is_grew : growth ≡ Grew → IsHigher 1 near row (tree_of new) × ((out-Node low).levels ≤ levels)
+  is_grew is = grew_put (nat_lt levels (out-Node low).levels) side levels (out-Node low).levels near (tree_of new) row refl (put_as Grew is)
 
-  pub at_turned_left : (a b whole : Tree) (q : Row) (s_low v_low : ℕ) → whole ≡ Fork a q (forked b m_left t_left) ((out-Node n).size + 1) (out-Node n).levels → IsOverLeft l_left row (Fork a q b s_low v_low)
-      → levels_of t_left < levels_of l_left → IsHigher 0 (tree_of n) row whole
-  at_turned_left a b whole q s_low v_low is over higher =
-      subst (λ u. IsHigher 0 u row whole) (sym (tree_out n))
-      (subst (IsHigher 0 (Fork l_left m_left t_left (out-Node n).size (out-Node n).levels) row) (sym is) (turned_left l_left t_left m_left row (out-Node n).size (out-Node n).levels opened_left less a b q s_low v_low over higher))
+  is_over : growth ≡ Over → IsOverAt side near row (tree_of new) × (levels < (out-Node low).levels)
+  is_over is = over_put (nat_lt levels (out-Node low).levels) side levels (out-Node low).levels near (tree_of new) row refl (put_as Over is)
 
-module _ (n : Node) (row : Row) (ready : IsReady (tree_of n) row.client) (more : client_cmp row.client (out-Node n).row.value.client ≡ Greater) where
-  abbrev l_right : Tree
-  l_right = tree_under (out-Node n).left
+  shorter : length (rows_of (far_of side new)) < length (rows_of (tree_of new))
+  shorter =
+      let a = ap length (node_rows side new) in
+      let b = length_at side (near_of side new) (far_of side new) (out-Node new).row.value in omega arith
 
-  abbrev t_right : Tree
-  t_right = tree_under (out-Node n).right
+  pub few_over : growth ≡ Over → length (rows_of (far_of side new)) + length (rows_of far) < MOST_ROWS
+  few_over is = few_at side near far r row ready way (tree_of new) (far_of side new) (node_over side near row new (is_over is).0).rows shorter
 
-  abbrev m_right : Row
-  m_right = (out-Node n).row.value
+  pub few_grew : growth ≡ Grew → length (rows_of (far_of side new)) + length (rows_of far) < MOST_ROWS
+  few_grew is = few_at side near far r row ready way (tree_of new) (far_of side new) (is_grew is).0.rows shorter
 
-  pub opened_right : IsReady (Fork l_right m_right t_right (out-Node n).size (out-Node n).levels) row.client
-  opened_right = subst (λ u. IsReady u row.client) (tree_out n) ready
+  pub at_counted : growth ≡ Counted → IsHigher 0 old row (forked_at side (tree_of new) r far)
+  at_counted is = counted side near far r row ready way (tree_of new) (put_as Counted is)
 
-  pub at_counted_right : (new whole : Tree) → whole ≡ Fork l_right m_right new ((out-Node n).size + 1) (out-Node n).levels → IsHigher 0 t_right row new
-      → IsHigher 0 (tree_of n) row whole
-  at_counted_right new whole is put =
-      subst (λ u. IsHigher 0 u row whole) (sym (tree_out n))
-      (subst (IsHigher 0 (Fork l_right m_right t_right (out-Node n).size (out-Node n).levels) row) (sym is) (counted_right l_right t_right m_right row (out-Node n).size (out-Node n).levels opened_right more new put))
+  pub at_level : growth ≡ Grew → (out-Node new).levels ≤ levels → IsHigher 0 old row (forked_at side (tree_of new) r far)
+  at_level is low_enough = let e = new_level in leveled side near far r row ready way (tree_of new) (is_grew is).0 (omega arith)
 
-  pub at_level_right : (new whole : Tree) → whole ≡ Fork l_right m_right new ((out-Node n).size + 1) (out-Node n).levels → IsHigher 1 t_right row new → levels_of new ≤ levels_of l_right
-      → IsHigher 0 (tree_of n) row whole
-  at_level_right new whole is put low =
-      subst (λ u. IsHigher 0 u row whole) (sym (tree_out n))
-      (subst (IsHigher 0 (Fork l_right m_right t_right (out-Node n).size (out-Node n).levels) row) (sym is) (level_right l_right t_right m_right row (out-Node n).size (out-Node n).levels opened_right more new put low))
+  even : growth ≡ Grew → levels_of near ≤ levels_of far
+  even is = let e = level in let low_enough = (is_grew is).1 in omega arith
 
-  pub at_grown_right : (new whole : Tree) → whole ≡ Fork l_right m_right new ((out-Node n).size + 1) ((out-Node n).levels + 1) → IsHigher 1 t_right row new → levels_of t_right ≤ levels_of l_right
-      → levels_of l_right < levels_of new → IsHigher 1 (tree_of n) row whole
-  at_grown_right new whole is put even high =
-      subst (λ u. IsHigher 1 u row whole) (sym (tree_out n))
-      (subst (IsHigher 1 (Fork l_right m_right t_right (out-Node n).size (out-Node n).levels) row) (sym is) (grown_right l_right t_right m_right row (out-Node n).size (out-Node n).levels opened_right more new put even high))
+  pub at_grown : growth ≡ Grew → levels < (out-Node new).levels → IsHigher 1 old row (forked_at side (tree_of new) r far)
+  at_grown is high = let e = new_level in grown side near far r row ready way (even is) (tree_of new) (is_grew is).0 (omega arith)
 
-  pub at_over_right : (new whole : Tree) (s v : ℕ) → whole ≡ Fork l_right m_right new s v → IsHigher 1 t_right row new → levels_of t_right ≤ levels_of l_right → levels_of l_right < levels_of new
-      → IsOverRight (tree_of n) row whole
-  at_over_right new whole s v is put even high =
-      subst (λ u. IsOverRight u row whole) (sym (tree_out n))
-      (subst (IsOverRight (Fork l_right m_right t_right (out-Node n).size (out-Node n).levels) row) (sym is) (over_right l_right t_right m_right row (out-Node n).size (out-Node n).levels opened_right more new s v put even high))
+  pub at_over : growth ≡ Grew → levels < (out-Node new).levels → IsOverAt side old row (forked_at side (tree_of new) r far)
+  at_over is high = let e = new_level in over side near far r row ready way (even is) (tree_of new) (is_grew is).0 (omega arith)
 
-  pub at_inner_right : (a b whole : Tree) (q : Row) (s_low v_low s v : ℕ) → whole ≡ Fork (forked l_right m_right a) q b s v → IsHigher 1 t_right row (Fork a q b s_low v_low)
-      → levels_of t_right ≤ levels_of l_right → levels_of l_right < v_low → IsOverLeft (tree_of n) row whole
-  at_inner_right a b whole q s_low v_low s v is put even high =
-      subst (λ u. IsOverLeft u row whole) (sym (tree_out n))
-      (subst (IsOverLeft (Fork l_right m_right t_right (out-Node n).size (out-Node n).levels) row) (sym is) (inner_right l_right t_right m_right row (out-Node n).size (out-Node n).levels opened_right more a b q s_low v_low s v put even high))
+  module _ (x y : Tree) (q : Row) (outer_is : x ≡ near_of side new) (turned_is : y ≡ forked_at side (far_of side new) r far) (middle_is : q ≡ (out-Node new).row.value) where
+    whole : forked_at side (near_of side new) (out-Node new).row.value (forked_at side (far_of side new) r far) ≡ forked_at side x q y
+    whole = λ i. forked_at side (sym outer_is i) (sym middle_is i) (sym turned_is i)
 
-  pub at_turned_right : (a b whole : Tree) (q : Row) (s_low v_low : ℕ) → whole ≡ Fork (forked l_right m_right a) q b ((out-Node n).size + 1) (out-Node n).levels → IsOverRight t_right row (Fork a q b s_low v_low)
-      → levels_of l_right < levels_of t_right → IsHigher 0 (tree_of n) row whole
-  at_turned_right a b whole q s_low v_low is over higher =
-      subst (λ u. IsHigher 0 u row whole) (sym (tree_out n))
-      (subst (IsHigher 0 (Fork l_right m_right t_right (out-Node n).size (out-Node n).levels) row) (sym is) (turned_right l_right t_right m_right row (out-Node n).size (out-Node n).levels opened_right more a b q s_low v_low over higher))
+    pub at_turned : growth ≡ Over → IsHigher 0 old row (forked_at side x q y)
+    at_turned is =
+        let p = is_over is in let high = p.1 in let e = level in
+        subst (IsHigher 0 old row) whole (turned side near far r row ready way new (node_over side near row new p.0) (omega arith))
+
+    pub at_inner : (other : Side) → (other ≡ side → ⊥) → growth ≡ Grew → levels < (out-Node new).levels → IsOverAt other old row (forked_at side x q y)
+    at_inner other differ is high =
+        let e = new_level in
+        subst (IsOverAt other old row) whole (inner side near far r row ready way (even is) new other differ (is_grew is).0 (omega arith))
+
+-- ---- the row alone as the tree on its side, where there is one on the other side
+
+-- a link that holds a node has a tree of a level at least
+filled : (link : Option (Rc Node Global)) → IsBalanced (tree_under link) → is_some link ≡ true → 1 ≤ levels_of (tree_under link)
+filled None balanced some = absurd cc
+filled (Some rc) balanced some =
+    let level = ap levels_of (tree_out rc.value) in
+    let high = (subst IsBalanced (tree_out rc.value) balanced).0.high in omega arith
+
+pub hung : (side : Side) (near : Tree) (far : Option (Rc Node Global)) (r row : Row) → IsReady (forked_at side near r (tree_under far)) row.client → client_cmp row.client r.client ≡ toward side
+    → near ≡ Empty → is_some far ≡ true → (new : Tree) → new ≡ forked Empty row Empty → IsHigher 0 (forked_at side near r (tree_under far)) row (forked_at side new r (tree_under far))
+hung side near far r row ready way none some new is =
+    let high = filled far (far_level side near (tree_under far) r row ready way) some in
+    let level = ap levels_of is in
+    leveled side near (tree_under far) r row ready way new
+    (subst (λ u. IsHigher 1 near row u) (sym is) (subst (λ u. IsHigher 1 u row (forked Empty row Empty)) (sym none) (single row)))
+    (omega arith)
+
+-- ---- what is written down at the node
+
+is_forked : (l t : Tree) (r : Row) (s v : ℕ) → IsBalanced (Fork l r t s v) → Fork l r t s v ≡ forked l r t
+is_forked l t r s v b =
+    let size : s ≡ size_of l + size_of t + 1 = (let a = b.0.sized in let d = size_is l b.1 in let e = size_is t b.2 in omega arith) in
+    λ i. Fork l r t (size i) (b.0.high i)
+
+module _ (n : Node) (row : Row) (ready : IsReady (tree_of n) row.client) where
+  abbrev left : Tree
+  left = tree_under (out-Node n).left
+
+  abbrev right : Tree
+  right = tree_under (out-Node n).right
+
+  abbrev middle : Row
+  middle = (out-Node n).row.value
+
+  node_forked : tree_of n ≡ forked left middle right
+  node_forked = tree_out n ∙ is_forked left right middle (out-Node n).size (out-Node n).levels (subst IsBalanced (tree_out n) ready.balanced)
+
+  pub ready_node : IsReady (forked left middle right) row.client
+  ready_node = subst (λ t. IsReady t row.client) node_forked ready
+
+  pub size_few : (out-Node n).size < MOST_ROWS
+  size_few =
+      let size = ap size_of (tree_out n) in
+      let is = size_is (tree_of n) ready.balanced in
+      let few = ready.few in omega arith
+
+  pub levels_fit : (out-Node n).levels < MOST_ROWS
+  levels_fit =
+      let level = ap levels_of (tree_out n) in
+      let low = levels_few (tree_of n) ready.balanced in
+      let few = ready.few in omega arith
+
+  -- the node has the rows of the fork
+  pub rows_node : length (rows_of (forked left middle right)) ≡ length (rows_of (tree_of n))
+  rows_node = ap (λ t. length (rows_of t)) (sym node_forked)
+
+  higher_node : (by : ℕ) (l t : Tree) (q : Row) (v : ℕ) → v ≡ (out-Node n).levels + by → IsHigher by (forked left middle right) row (forked l q t)
+      → IsHigher by (tree_of n) row (Fork l q t ((out-Node n).size + 1) v)
+  higher_node by l t q v levels put =
+      let more = ap length put.rows ∙ length-put_new (rows_of (forked left middle right)) row (none_is (row_of (rows_of (forked left middle right)) row.client) ready_node.unknown) in
+      let size = size_is (forked l q t) put.balanced in
+      let size_before = size_is (tree_of n) ready.balanced in
+      let written = ap size_of (tree_out n) in
+      let written_levels = ap levels_of (tree_out n) in
+      let length_before = ap (λ u. length (rows_of u)) node_forked in
+      let levels_before = ap levels_of node_forked in
+      let high = put.levels in
+      let size_is : size_of (forked l q t) ≡ (out-Node n).size + 1 = omega arith in
+      let levels_are : levels_of (forked l q t) ≡ v = omega arith in
+      subst (λ u. IsHigher by u row (Fork l q t ((out-Node n).size + 1) v)) (sym node_forked)
+      (subst (IsHigher by (forked left middle right) row) (λ i. Fork l q t (size_is i) (levels_are i)) put)
+
+  over_node : (side : Side) (l t : Tree) (q : Row) → IsOverAt side (forked left middle right) row (forked l q t)
+      → IsOverAt side (tree_of n) row (Fork l q t (out-Node n).size (out-Node n).levels)
+  over_node Left l t q put =
+      subst (λ u. IsOver u row (Fork l q t (out-Node n).size (out-Node n).levels) l t) (sym node_forked)
+      (record { rows = put.rows; outer_balanced = put.outer_balanced; inner_balanced = put.inner_balanced; high = put.high; less = put.less; low = put.low })
+  over_node Right l t q put =
+      subst (λ u. IsOver u row (Fork l q t (out-Node n).size (out-Node n).levels) t l) (sym node_forked)
+      (record { rows = put.rows; outer_balanced = put.outer_balanced; inner_balanced = put.inner_balanced; high = put.high; less = put.less; low = put.low })
+
+  put_node : (above : Option Side) (growth : Growth) (l t : Tree) (q : Row) → IsPut above growth (forked left middle right) row (forked l q t)
+      → IsPut above growth (tree_of n) row (count_growth growth (Fork l q t (out-Node n).size (out-Node n).levels))
+  put_node above Counted l t q put = higher_node 0 l t q (out-Node n).levels (omega arith) put
+  put_node None Grew l t q put = higher_node 1 l t q ((out-Node n).levels + 1) refl put
+  put_node None Over l t q put = absurd put
+  put_node (Some side) Grew l t q put = absurd put
+  put_node (Some side) Over l t q put = over_node side l t q put
+
+  -- the same of the node that was written
+  pub put_in_node : (above : Option Side) (growth : Growth) (l t kept written : Tree) (q : Row) → kept ≡ Fork l q t (out-Node n).size (out-Node n).levels
+      → written ≡ count_growth growth kept → IsPut above growth (forked left middle right) row (forked l q t) → IsPut above growth (tree_of n) row written
+  put_in_node above growth l t kept written q is count put =
+      subst (IsPut above growth (tree_of n) row) (sym (count ∙ ap (count_growth growth) is)) (put_node above growth l t q put)

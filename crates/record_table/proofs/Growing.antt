@@ -1,256 +1,191 @@
--- A row of a new client, put into a side of a node.
-use Rattle.std.proofs.Common.{◌≡◌, ℕ, ◌+◌, ◌<◌, ◌≤◌, length, refl, sym, ap, ◌∙◌, arith, length-append, append_assoc, ◌∷◌, ◌++◌}
-use Rattle.std.specs.declared.cmp.Ordering.TheVariants.{Less, Greater}
+-- A row of a new client, put into the tree on a side of a row.
+use Rattle.std.proofs.Common.{◌≡◌, ℕ, ◌+◌, ◌<◌, ◌≤◌, max, length, refl, sym, ap, subst, ◌∙◌, arith, length-append, append_assoc, ◌∷◌, ◌++◌}
 use Rattle.values.specs.declared.row.Row.{Row}
+use Rattle.values.specs.declared.limits.TheConstants.{MOST_ROWS}
 use Rattle.record_rules.specs.Clients.{client_cmp}
 use Rattle.record_rules.specs.Table.{row_of, put_row}
-use Rattle.record_table.specs.Trees.{Tree, rows_of, levels_of, forked, IsReady}
-use Rattle.record_table.specs.Trees.Tree.{Empty, Fork}
-use Rattle.record_table.specs.Growths.{IsHigher, IsOverLeft, IsOverRight}
+use Rattle.record_table.specs.declared.growth.Side.{Side}
+use Rattle.record_table.specs.declared.growth.Side.TheVariants.{Left, Right}
+use Rattle.record_table.specs.declared.node.Node.{Node, out-Node}
+use Rattle.record_table.specs.Trees.{Tree, rows_of, levels_of, tree_of, forked, IsBalanced, IsReady}
+use Rattle.record_table.specs.Trees.Tree.{Empty}
+use Rattle.record_table.specs.Growths.{toward, near_of, far_of, forked_at, IsHigher, IsOver, IsOverAt}
+use Rattle.record_table.proofs.Nodes.{tree_out}
 use Rattle.record_table.proofs.Balanced.{forked_balanced}
 use Rattle.record_table.proofs.Around.{put_row-below, put_row-above, length-put_new}
 use Rattle.record_table.proofs.RowIn.{none_is, ready_left, ready_right}
+
+-- ---- a row between two trees, by the side
+
+-- two balanced trees whose levels differ by at most one
+pub record AreLevel (near far : Tree) : Type 0 where
+  pub near_balanced : IsBalanced near
+  pub far_balanced : IsBalanced far
+  pub near_low : levels_of near ≤ levels_of far + 1
+  pub far_low : levels_of far ≤ levels_of near + 1
+
+opened_at : (side : Side) (near far : Tree) (r : Row) → IsBalanced (forked_at side near r far) → AreLevel near far
+opened_at Left near far r b = record { near_balanced = b.1; far_balanced = b.2; near_low = b.0.left_low; far_low = b.0.right_low }
+opened_at Right near far r b = record { near_balanced = b.2; far_balanced = b.1; near_low = b.0.right_low; far_low = b.0.left_low }
+
+balanced_at : (side : Side) (near far : Tree) (r : Row) → AreLevel near far → IsBalanced (forked_at side near r far)
+balanced_at Left near far r b = forked_balanced near far r b.near_balanced b.far_balanced b.near_low b.far_low
+balanced_at Right near far r b = forked_balanced far near r b.far_balanced b.near_balanced b.far_low b.near_low
+
+levels_at : (side : Side) (near far : Tree) (r : Row) → levels_of (forked_at side near r far) ≡ max (levels_of near) (levels_of far) + 1
+levels_at Left near far r = refl
+levels_at Right near far r = omega arith
+
+pub length_at : (side : Side) (near far : Tree) (r : Row) → length (rows_of (forked_at side near r far)) ≡ length (rows_of near) + length (rows_of far) + 1
+length_at Left near far r = omega (arith, length-append (rows_of near) (r ∷ rows_of far))
+length_at Right near far r = omega (arith, length-append (rows_of far) (r ∷ rows_of near))
+
+-- the row goes to the tree on its side
+pub ready_at : (side : Side) (near far : Tree) (r row : Row) → IsReady (forked_at side near r far) row.client → client_cmp row.client r.client ≡ toward side → IsReady near row.client
+ready_at Left near far r row ready way = ready_left near far r row _ _ ready way
+ready_at Right near far r row ready way = ready_right far near r row _ _ ready way
+
+rows_at : (side : Side) (near far new : Tree) (r row : Row) → IsReady (forked_at side near r far) row.client → client_cmp row.client r.client ≡ toward side
+    → rows_of new ≡ put_row (rows_of near) row → rows_of (forked_at side new r far) ≡ put_row (rows_of (forked_at side near r far)) row
+rows_at Left near far new r row ready way is = ap (λ rows. rows ++ r ∷ rows_of far) is ∙ sym (put_row-below (rows_of near) r (rows_of far) row way)
+rows_at Right near far new r row ready way is = ap (λ rows. rows_of far ++ r ∷ rows) is ∙ sym (put_row-above (rows_of far) r (rows_of near) row ready.rising way)
+
+-- a turn leaves the rows in their order
+turned_rows : (side : Side) (outer inner far : Tree) (q r : Row)
+    → rows_of (forked_at side outer q (forked_at side inner r far)) ≡ rows_of (forked_at side (forked_at side outer q inner) r far)
+turned_rows Left outer inner far q r = sym (append_assoc (rows_of outer) (q ∷ rows_of inner) (r ∷ rows_of far))
+turned_rows Right outer inner far q r = append_assoc (rows_of far) (r ∷ rows_of inner) (q ∷ rows_of outer)
+
+-- ---- a node, by the side
+
+pub node_rows : (side : Side) (n : Node) → rows_of (tree_of n) ≡ rows_of (forked_at side (near_of side n) (out-Node n).row.value (far_of side n))
+node_rows Left n = ap rows_of (tree_out n)
+node_rows Right n = ap rows_of (tree_out n)
+
+pub node_level : (side : Side) (n : Node) → IsBalanced (tree_of n) → AreLevel (near_of side n) (far_of side n)
+node_level Left n b = let c = subst IsBalanced (tree_out n) b in record { near_balanced = c.1; far_balanced = c.2; near_low = c.0.left_low; far_low = c.0.right_low }
+node_level Right n b = let c = subst IsBalanced (tree_out n) b in record { near_balanced = c.2; far_balanced = c.1; near_low = c.0.right_low; far_low = c.0.left_low }
+
+node_levels : (side : Side) (n : Node) → IsBalanced (tree_of n) → levels_of (tree_of n) ≡ max (levels_of (near_of side n)) (levels_of (far_of side n)) + 1
+node_levels Left n b = let c = (subst IsBalanced (tree_out n) b).0.high in let e = ap levels_of (tree_out n) in omega arith
+node_levels Right n b = let c = (subst IsBalanced (tree_out n) b).0.high in let e = ap levels_of (tree_out n) in omega arith
+
+pub node_over : (side : Side) (old : Tree) (row : Row) (n : Node) → IsOverAt side old row (tree_of n) → IsOver old row (tree_of n) (near_of side n) (far_of side n)
+node_over Left old row n over = subst (λ t. IsOver old row t (near_of Left n) (far_of Left n)) (sym (tree_out n)) (subst (IsOverAt Left old row) (tree_out n) over)
+node_over Right old row n over = subst (λ t. IsOver old row t (near_of Right n) (far_of Right n)) (sym (tree_out n)) (subst (IsOverAt Right old row) (tree_out n) over)
+
+-- ---- which side of a tree is the outer one
+
+over_near : (side : Side) (old near far : Tree) (r row : Row) → IsOver old row (forked_at side near r far) near far → IsOverAt side old row (forked_at side near r far)
+over_near Left old near far r row over = over
+over_near Right old near far r row over = over
+
+over_far : (side other : Side) (old near far : Tree) (r row : Row) → (other ≡ side → ⊥) → IsOver old row (forked_at side near r far) far near
+    → IsOverAt other old row (forked_at side near r far)
+over_far Left Left old near far r row differ over = absurd (differ refl)
+over_far Left Right old near far r row differ over = over
+over_far Right Left old near far r row differ over = over
+over_far Right Right old near far r row differ over = absurd (differ refl)
+
+-- ---- what becomes of the tree
 
 -- a tree of one row
 pub single : (row : Row) → IsHigher 1 Empty row (forked Empty row Empty)
 single row = record { rows = refl; balanced = forked_balanced Empty Empty row tt tt (omega arith) (omega arith); levels = refl }
 
-module _ (l t : Tree) (r row : Row) (s v : ℕ) (ready : IsReady (Fork l r t s v) row.client) (less : client_cmp row.client r.client ≡ Less) where
-  rows_left : (n : Tree) → rows_of n ≡ put_row (rows_of l) row → rows_of n ++ r ∷ rows_of t ≡ put_row (rows_of l ++ r ∷ rows_of t) row
-  rows_left n is = ap (λ rows. rows ++ r ∷ rows_of t) is ∙ sym (put_row-below (rows_of l) r (rows_of t) row less)
+module _ (side : Side) (near far : Tree) (r row : Row) (ready : IsReady (forked_at side near r far) row.client) (way : client_cmp row.client r.client ≡ toward side) where
+  abbrev old : Tree
+  old = forked_at side near r far
 
-  longer_left : (n : Tree) → rows_of n ≡ put_row (rows_of l) row → length (rows_of n) ≡ length (rows_of l) + 1
-  longer_left n is = ap length is ∙ length-put_new (rows_of l) row (none_is (row_of (rows_of l) row.client) (ready_left l t r row s v ready less).unknown)
+  level : AreLevel near far
+  level = opened_at side near far r ready.balanced
 
-  pub counted_left : (n : Tree) → IsHigher 0 l row n → IsHigher 0 (Fork l r t s v) row (Fork n r t (s + 1) v)
-  counted_left n put =
-      let b = ready.balanced.0 in let long = longer_left n put.rows in let e = put.levels in
-      record {
-        rows = rows_left n put.rows;
-        balanced = (
-          record {
-            sized = (let a = b.sized in omega arith);
-            high = (let a = b.high in omega arith);
-            left_low = (let a = b.left_low in omega arith);
-            right_low = (let a = b.right_low in omega arith);
-          },
-          put.balanced,
-          ready.balanced.2,
-        );
-        levels = (omega arith);
-      }
+  pub far_level : IsBalanced far
+  far_level = level.far_balanced
 
-  pub level_left : (n : Tree) → IsHigher 1 l row n → levels_of n ≤ levels_of t → IsHigher 0 (Fork l r t s v) row (Fork n r t (s + 1) v)
-  level_left n put low =
-      let b = ready.balanced.0 in let long = longer_left n put.rows in let e = put.levels in
-      record {
-        rows = rows_left n put.rows;
-        balanced = (
-          record {
-            sized = (let a = b.sized in omega arith);
-            high = (let a = b.high in omega arith);
-            left_low = (let a = b.left_low in omega arith);
-            right_low = (let a = b.right_low in omega arith);
-          },
-          put.balanced,
-          ready.balanced.2,
-        );
-        levels = (omega arith);
-      }
+  -- the tree on the other side and one no longer than that on the row's side with it are fewer rows than a store has to hold
+  pub few_at : (new inner : Tree) → rows_of new ≡ put_row (rows_of near) row → length (rows_of inner) < length (rows_of new)
+      → length (rows_of inner) + length (rows_of far) < MOST_ROWS
+  few_at new inner is short =
+      let longer = ap length is ∙ length-put_new (rows_of near) row (none_is (row_of (rows_of near) row.client) (ready_at side near far r row ready way).unknown) in
+      let whole = length_at side near far r in
+      let few = ready.few in omega arith
 
-  pub grown_left : (n : Tree) → IsHigher 1 l row n → levels_of l ≤ levels_of t → levels_of t < levels_of n
-      → IsHigher 1 (Fork l r t s v) row (Fork n r t (s + 1) (v + 1))
-  grown_left n put even high =
-      let b = ready.balanced.0 in let long = longer_left n put.rows in let e = put.levels in
-      record {
-        rows = rows_left n put.rows;
-        balanced = (
-          record {
-            sized = (let a = b.sized in omega arith);
-            high = (let a = b.high in omega arith);
-            left_low = (omega arith);
-            right_low = (omega arith);
-          },
-          put.balanced,
-          ready.balanced.2,
-        );
-        levels = (omega arith);
-      }
-
-  pub over_left : (n : Tree) (s_too v_too : ℕ) → IsHigher 1 l row n → levels_of l ≤ levels_of t → levels_of t < levels_of n
-      → IsOverLeft (Fork l r t s v) row (Fork n r t s_too v_too)
-  over_left n s_too v_too put even high =
-      let e = put.levels in let a = ready.balanced.0.high in
-      record {
-        rows = rows_left n put.rows;
-        outer_balanced = put.balanced;
-        inner_balanced = ready.balanced.2;
-        high = (omega arith);
-        less = high;
-        low = (omega arith);
-      }
-
-  pub inner_left : (a b : Tree) (q : Row) (s_low v_low s_too v_too : ℕ) → IsHigher 1 l row (Fork a q b s_low v_low) → levels_of l ≤ levels_of t → levels_of t < v_low
-      → IsOverRight (Fork l r t s v) row (Fork a q (forked b r t) s_too v_too)
-  inner_left a b q s_low v_low s_too v_too put even high =
+  -- the tree has so many levels more, where the tree on the row's side has so many more
+  higher : (by more : ℕ) (new : Tree) → IsHigher more near row new → levels_of new ≤ levels_of far + 1
+      → max (levels_of new) (levels_of far) ≡ max (levels_of near) (levels_of far) + by → IsHigher by old row (forked_at side new r far)
+  higher by more new put low levels =
       let e = put.levels in
-      let h = ready.balanced.0.high in
-      let i = put.balanced.0.high in
-      let j = put.balanced.0.left_low in
-      let k = put.balanced.0.right_low in
+      let h = level.far_low in
       record {
-        rows = sym (append_assoc (rows_of a) (q ∷ rows_of b) (r ∷ rows_of t)) ∙ rows_left (Fork a q b s_low v_low) put.rows;
-        outer_balanced = forked_balanced b t r put.balanced.2 ready.balanced.2 (omega arith) (omega arith);
-        inner_balanced = put.balanced.1;
-        high = (omega arith);
-        less = (omega arith);
-        low = (omega arith);
+        rows = rows_at side near far new r row ready way put.rows;
+        balanced = balanced_at side new far r (record { near_balanced = put.balanced; far_balanced = level.far_balanced; near_low = low; far_low = (omega arith) });
+        levels = (let a = levels_at side near far r in let b = levels_at side new far r in omega arith);
       }
 
-  pub turned_left : (a b : Tree) (q : Row) (s_low v_low : ℕ) → IsOverLeft l row (Fork a q b s_low v_low) → levels_of t < levels_of l
-      → IsHigher 0 (Fork l r t s v) row (Fork a q (forked b r t) (s + 1) v)
-  turned_left a b q s_low v_low over higher =
-      let h = ready.balanced.0.high in
-      let i = ready.balanced.0.left_low in
-      let j = over.high in
-      let k = over.less in
-      let m = over.low in
-      let low = forked_balanced b t r over.inner_balanced ready.balanced.2 (omega arith) (omega arith) in
+  pub counted : (new : Tree) → IsHigher 0 near row new → IsHigher 0 old row (forked_at side new r far)
+  counted new put = let e = put.levels in let h = level.near_low in higher 0 0 new put (omega arith) (omega arith)
+
+  pub leveled : (new : Tree) → IsHigher 1 near row new → levels_of new ≤ levels_of far → IsHigher 0 old row (forked_at side new r far)
+  leveled new put low = let e = put.levels in higher 0 1 new put (omega arith) (omega arith)
+
+  module _ (even : levels_of near ≤ levels_of far) where
+    pub grown : (new : Tree) → IsHigher 1 near row new → levels_of far < levels_of new → IsHigher 1 old row (forked_at side new r far)
+    grown new put high = let e = put.levels in higher 1 1 new put (omega arith) (omega arith)
+
+    pub over : (new : Tree) → IsHigher 1 near row new → levels_of far < levels_of new → IsOverAt side old row (forked_at side new r far)
+    over new put high =
+        let e = put.levels in
+        let a = levels_at side near far r in
+        over_near side old new far r row (record {
+          rows = rows_at side near far new r row ready way put.rows;
+          outer_balanced = put.balanced;
+          inner_balanced = level.far_balanced;
+          high = (omega arith);
+          less = high;
+          low = (omega arith);
+        })
+
+    -- the tree on the row's side was turned, since the other side is to be the outer one
+    pub inner : (n : Node) (other : Side) → (other ≡ side → ⊥) → IsHigher 1 near row (tree_of n) → levels_of far < levels_of (tree_of n)
+        → IsOverAt other old row (forked_at side (near_of side n) (out-Node n).row.value (forked_at side (far_of side n) r far))
+    inner n other differ put high =
+        let e = put.levels in
+        let a = levels_at side near far r in
+        let low = node_level side n put.balanced in
+        let b = node_levels side n put.balanced in
+        let c = levels_at side (far_of side n) far r in
+        let i = low.near_low in
+        let j = low.far_low in
+        over_far side other old (near_of side n) (forked_at side (far_of side n) r far) (out-Node n).row.value row differ (record {
+          rows =
+              turned_rows side (near_of side n) (far_of side n) far (out-Node n).row.value r
+              ∙ rows_at side near far (forked_at side (near_of side n) (out-Node n).row.value (far_of side n)) r row ready way (sym (node_rows side n) ∙ put.rows);
+          outer_balanced = balanced_at side (far_of side n) far r (record { near_balanced = low.far_balanced; far_balanced = level.far_balanced; near_low = (omega arith); far_low = (omega arith) });
+          inner_balanced = low.near_balanced;
+          high = (omega arith);
+          less = (omega arith);
+          low = (omega arith);
+        })
+
+  -- the tree on the row's side was turned, and is balanced then
+  pub turned : (n : Node) → IsOver near row (tree_of n) (near_of side n) (far_of side n) → levels_of far < levels_of near
+      → IsHigher 0 old row (forked_at side (near_of side n) (out-Node n).row.value (forked_at side (far_of side n) r far))
+  turned n put higher =
+      let i = level.near_low in
+      let j = put.high in
+      let k = put.less in
+      let m = put.low in
+      let a = levels_at side near far r in
+      let b = levels_at side (far_of side n) far r in
+      let c = levels_at side (near_of side n) (forked_at side (far_of side n) r far) (out-Node n).row.value in
+      let low = balanced_at side (far_of side n) far r (record { near_balanced = put.inner_balanced; far_balanced = level.far_balanced; near_low = (omega arith); far_low = (omega arith) }) in
       record {
-        rows = sym (append_assoc (rows_of a) (q ∷ rows_of b) (r ∷ rows_of t)) ∙ rows_left (Fork a q b s_low v_low) over.rows;
-        balanced = (
-          record {
-            sized =
-                (let x = ready.balanced.0.sized in
-                let long = longer_left (Fork a q b s_low v_low) over.rows in
-                let y = length-append (rows_of a) (q ∷ rows_of b) in
-                let z = length-append (rows_of b) (r ∷ rows_of t) in omega arith);
-            high = (omega arith);
-            left_low = (omega arith);
-            right_low = (omega arith);
-          },
-          over.outer_balanced,
-          low,
-        );
-        levels = (omega arith);
-      }
-
-module _ (l t : Tree) (r row : Row) (s v : ℕ) (ready : IsReady (Fork l r t s v) row.client) (more : client_cmp row.client r.client ≡ Greater) where
-  rows_right : (n : Tree) → rows_of n ≡ put_row (rows_of t) row → rows_of l ++ r ∷ rows_of n ≡ put_row (rows_of l ++ r ∷ rows_of t) row
-  rows_right n is = ap (λ rows. rows_of l ++ r ∷ rows) is ∙ sym (put_row-above (rows_of l) r (rows_of t) row ready.rising more)
-
-  longer_right : (n : Tree) → rows_of n ≡ put_row (rows_of t) row → length (rows_of n) ≡ length (rows_of t) + 1
-  longer_right n is = ap length is ∙ length-put_new (rows_of t) row (none_is (row_of (rows_of t) row.client) (ready_right l t r row s v ready more).unknown)
-
-  pub counted_right : (n : Tree) → IsHigher 0 t row n → IsHigher 0 (Fork l r t s v) row (Fork l r n (s + 1) v)
-  counted_right n put =
-      let b = ready.balanced.0 in let long = longer_right n put.rows in let e = put.levels in
-      record {
-        rows = rows_right n put.rows;
-        balanced = (
-          record {
-            sized = (let a = b.sized in omega arith);
-            high = (let a = b.high in omega arith);
-            left_low = (let a = b.left_low in omega arith);
-            right_low = (let a = b.right_low in omega arith);
-          },
-          ready.balanced.1,
-          put.balanced,
-        );
-        levels = (omega arith);
-      }
-
-  pub level_right : (n : Tree) → IsHigher 1 t row n → levels_of n ≤ levels_of l → IsHigher 0 (Fork l r t s v) row (Fork l r n (s + 1) v)
-  level_right n put low =
-      let b = ready.balanced.0 in let long = longer_right n put.rows in let e = put.levels in
-      record {
-        rows = rows_right n put.rows;
-        balanced = (
-          record {
-            sized = (let a = b.sized in omega arith);
-            high = (let a = b.high in omega arith);
-            left_low = (let a = b.left_low in omega arith);
-            right_low = (let a = b.right_low in omega arith);
-          },
-          ready.balanced.1,
-          put.balanced,
-        );
-        levels = (omega arith);
-      }
-
-  pub grown_right : (n : Tree) → IsHigher 1 t row n → levels_of t ≤ levels_of l → levels_of l < levels_of n
-      → IsHigher 1 (Fork l r t s v) row (Fork l r n (s + 1) (v + 1))
-  grown_right n put even high =
-      let b = ready.balanced.0 in let long = longer_right n put.rows in let e = put.levels in
-      record {
-        rows = rows_right n put.rows;
-        balanced = (
-          record {
-            sized = (let a = b.sized in omega arith);
-            high = (let a = b.high in omega arith);
-            left_low = (omega arith);
-            right_low = (omega arith);
-          },
-          ready.balanced.1,
-          put.balanced,
-        );
-        levels = (omega arith);
-      }
-
-  pub over_right : (n : Tree) (s_too v_too : ℕ) → IsHigher 1 t row n → levels_of t ≤ levels_of l → levels_of l < levels_of n
-      → IsOverRight (Fork l r t s v) row (Fork l r n s_too v_too)
-  over_right n s_too v_too put even high =
-      let e = put.levels in let a = ready.balanced.0.high in
-      record {
-        rows = rows_right n put.rows;
-        outer_balanced = put.balanced;
-        inner_balanced = ready.balanced.1;
-        high = (omega arith);
-        less = high;
-        low = (omega arith);
-      }
-
-  pub inner_right : (a b : Tree) (q : Row) (s_low v_low s_too v_too : ℕ) → IsHigher 1 t row (Fork a q b s_low v_low) → levels_of t ≤ levels_of l → levels_of l < v_low
-      → IsOverLeft (Fork l r t s v) row (Fork (forked l r a) q b s_too v_too)
-  inner_right a b q s_low v_low s_too v_too put even high =
-      let e = put.levels in
-      let h = ready.balanced.0.high in
-      let i = put.balanced.0.high in
-      let j = put.balanced.0.left_low in
-      let k = put.balanced.0.right_low in
-      record {
-        rows = append_assoc (rows_of l) (r ∷ rows_of a) (q ∷ rows_of b) ∙ rows_right (Fork a q b s_low v_low) put.rows;
-        outer_balanced = forked_balanced l a r ready.balanced.1 put.balanced.1 (omega arith) (omega arith);
-        inner_balanced = put.balanced.2;
-        high = (omega arith);
-        less = (omega arith);
-        low = (omega arith);
-      }
-
-  pub turned_right : (a b : Tree) (q : Row) (s_low v_low : ℕ) → IsOverRight t row (Fork a q b s_low v_low) → levels_of l < levels_of t
-      → IsHigher 0 (Fork l r t s v) row (Fork (forked l r a) q b (s + 1) v)
-  turned_right a b q s_low v_low over higher =
-      let h = ready.balanced.0.high in
-      let i = ready.balanced.0.right_low in
-      let j = over.high in
-      let k = over.less in
-      let m = over.low in
-      let low = forked_balanced l a r ready.balanced.1 over.inner_balanced (omega arith) (omega arith) in
-      record {
-        rows = append_assoc (rows_of l) (r ∷ rows_of a) (q ∷ rows_of b) ∙ rows_right (Fork a q b s_low v_low) over.rows;
-        balanced = (
-          record {
-            sized =
-                (let x = ready.balanced.0.sized in
-                let long = longer_right (Fork a q b s_low v_low) over.rows in
-                let y = length-append (rows_of a) (q ∷ rows_of b) in
-                let z = length-append (rows_of l) (r ∷ rows_of a) in omega arith);
-            high = (omega arith);
-            left_low = (omega arith);
-            right_low = (omega arith);
-          },
-          low,
-          over.outer_balanced,
-        );
+        rows =
+            turned_rows side (near_of side n) (far_of side n) far (out-Node n).row.value r
+            ∙ rows_at side near far (forked_at side (near_of side n) (out-Node n).row.value (far_of side n)) r row ready way (sym (node_rows side n) ∙ put.rows);
+        balanced =
+            balanced_at side (near_of side n) (forked_at side (far_of side n) r far) (out-Node n).row.value
+            (record { near_balanced = put.outer_balanced; far_balanced = low; near_low = (omega arith); far_low = (omega arith) });
         levels = (omega arith);
       }

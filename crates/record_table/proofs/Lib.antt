@@ -7,8 +7,6 @@ mod Walked
 mod Stored
 mod Growing
 mod AtNode
-mod PutLeft
-mod PutRight
 mod SlotsLemmas
 mod Changed
 mod Copied

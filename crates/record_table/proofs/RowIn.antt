@@ -1,6 +1,6 @@
 -- A row that a tree does not have, at a node of the tree.
 use Rattle.std.proofs.Common.{◌≡◌, ℕ, ◌+◌, ◌<◌, ◌≤◌, length, refl, sym, ap, subst, ◌∙◌, arith, length-append, ◌∷◌, ◌++◌, inl, inr}
-use Rattle.std.specs.Prelude.{Option, Some, None, IsNone, Result, Ok, Err, IfOk, OnOk}
+use Rattle.std.specs.Prelude.{Option, Some, None, IsNone, Result, Ok, Err, OnOk}
 use Rattle.std.specs.declared.rc.Rc.{Rc}
 use Rattle.std.specs.declared.alloc.Global.{Global}
 use Rattle.std.specs.declared.cmp.Ordering.TheVariants.{Less, Equal, Greater}
@@ -24,10 +24,6 @@ none_is None h = refl
 none_is (Some row) h = absurd cc
 
 -- what follows from what a result holds
-pub carried : {X E : Type 0} (r : Result X E) (P Q : X → Type 0) → ((x : X) → P x → Q x) → IfOk r P → IfOk r Q
-carried (Ok x) P Q f h = f x h
-carried (Err e) P Q f h = tt
-
 pub followed : {X E : Type 0} (r : Result X E) (P Q : Type 0) → (P → Q) → OnOk r P → OnOk r Q
 followed (Ok x) P Q f h = f h
 followed (Err e) P Q f h = tt
@@ -93,9 +89,3 @@ module _ (n : Node) (row : Row) (number at : ℕ) (mine : IsNumberOf row.client 
 
   pub more : at ≤ number → client_cmp row.client (out-Node n).row.value.client ≡ Greater
   more h = above left right (out-Node n).row.value row (out-Node n).size (out-Node n).levels opened number at mine other h
-
-  pub node_ready_left : number < at → IsReady left row.client
-  node_ready_left h = ready_left left right (out-Node n).row.value row (out-Node n).size (out-Node n).levels opened (less h)
-
-  pub node_ready_right : at ≤ number → IsReady right row.client
-  node_ready_right h = ready_right left right (out-Node n).row.value row (out-Node n).size (out-Node n).levels opened (more h)

@@ -1,13 +1,9 @@
 //! What becomes of a node's tree that takes a row more.
 
-/// How the node above stands to a tree that takes a row.
-#[derive(Clone, Copy, Debug)]
-pub enum Above {
-    /// The tree may have a level more.
-    Open,
-    /// The tree is the left side, and the higher one: with a level more it is turned to the right.
+/// A side of a node.
+#[derive(Clone, Copy, Debug, PartialEq, Eq)]
+pub enum Side {
     Left,
-    /// The tree is the right side, and the higher one: with a level more it is turned to the left.
     Right,
 }
 

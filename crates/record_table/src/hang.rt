@@ -1,89 +1,52 @@
-//! A row more at a node that has no tree on the row's side.
+//! A row more beside one that has no tree on that side.
 ghost use Rattle.std.specs.Prelude.{◌≡◌, IfOk, OnErr};
-ghost use Rattle.std.specs.declared.cmp.Ordering.TheVariants.{Less, Greater};
 ghost use Rattle.record_rules.specs.Clients.{client_cmp};
-ghost use Rattle.record_table.specs.declared.node.Node.{out-Node};
-ghost use Rattle.record_table.specs.Trees.{tree_of, tree_under, IsReady};
+ghost use Rattle.record_table.specs.Trees.{tree_under, IsReady};
 ghost use Rattle.record_table.specs.Trees.Tree.{Empty};
-ghost use Rattle.record_table.specs.Growths.{IsPut};
+ghost use Rattle.record_table.specs.Growths.{toward, forked_at, IsPut};
 
-use crate::growth::{Above, Growth};
-use crate::node::{Node, leaf};
+use crate::growth::{Growth, Side};
+use crate::node::{Link, alone};
 use std::alloc::Global;
 use std::rc::Rc;
 use values::{Memory, Row};
 
-/// Hangs the row in as the left side. After `Memory` the node is as before.
-pub fn hang_left(
+/// Hangs the row in as the tree on this side of a row. After `Memory` all is as before.
+pub fn hang(
     alloc: Global,
-    node: &mut Node,
+    side: Side,
+    near: &mut Link,
+    middle: &mut Rc<Row>,
+    far: &mut Link,
     row: &Rc<Row>,
-    above: Above,
+    above: Option<Side>,
 ) -> Result<Growth, Memory>
-    requires ready { IsReady (tree_of node.old) row.now.value.client }
-    requires before { client_cmp row.now.value.client (out-Node node.old).row.value.client ≡ Less }
-    requires none { tree_under (out-Node node.old).left ≡ Empty }
-    ensures ok { IfOk result (λ growth. IsPut above growth (tree_of node.old) row.now.value (tree_of node.new)) }
-    ensures err { OnErr result (tree_of node.new ≡ tree_of node.old) }
+    requires ready { IsReady (forked_at side (tree_under near.old) middle.old.value (tree_under far.old)) row.now.value.client }
+    requires toward { client_cmp row.now.value.client middle.old.value.client ≡ toward side }
+    requires none { tree_under near.old ≡ Empty }
+    ensures ok { IfOk result (λ growth. IsPut above growth (forked_at side (tree_under near.old) middle.old.value (tree_under far.old)) row.now.value
+        (forked_at side (tree_under near.new) middle.new.value (tree_under far.new))) }
+    ensures near { OnErr result (tree_under near.new ≡ tree_under near.old) }
+    ensures middle { OnErr result (middle.new.value ≡ middle.old.value) }
+    ensures far { OnErr result (tree_under far.new ≡ tree_under far.old) }
 {
-    if node.right.is_some() {
-        node.left = Some(Rc::new(alloc, leaf(row.clone()?))?);
-        node.size += 1;
+    if far.is_some() {
+        *near = alone(alloc, row)?;
         return Ok(Growth::Counted);
     }
     match above {
-        Above::Open => {
-            node.left = Some(Rc::new(alloc, leaf(row.clone()?))?);
-            node.size += 1;
-            node.levels += 1;
+        None => {
+            *near = alone(alloc, row)?;
             Ok(Growth::Grew)
         }
-        Above::Left => {
-            node.left = Some(Rc::new(alloc, leaf(row.clone()?))?);
+        Some(higher) if higher == side => {
+            *near = alone(alloc, row)?;
             Ok(Growth::Over)
         }
-        Above::Right => {
+        Some(_) => {
             let upper = row.clone()?;
-            node.right = Some(Rc::new(alloc, leaf(node.row.clone()?))?);
-            node.row = upper;
-            Ok(Growth::Over)
-        }
-    }
-}
-
-/// Hangs the row in as the right side. After `Memory` the node is as before.
-pub fn hang_right(
-    alloc: Global,
-    node: &mut Node,
-    row: &Rc<Row>,
-    above: Above,
-) -> Result<Growth, Memory>
-    requires ready { IsReady (tree_of node.old) row.now.value.client }
-    requires behind { client_cmp row.now.value.client (out-Node node.old).row.value.client ≡ Greater }
-    requires none { tree_under (out-Node node.old).right ≡ Empty }
-    ensures ok { IfOk result (λ growth. IsPut above growth (tree_of node.old) row.now.value (tree_of node.new)) }
-    ensures err { OnErr result (tree_of node.new ≡ tree_of node.old) }
-{
-    if node.left.is_some() {
-        node.right = Some(Rc::new(alloc, leaf(row.clone()?))?);
-        node.size += 1;
-        return Ok(Growth::Counted);
-    }
-    match above {
-        Above::Open => {
-            node.right = Some(Rc::new(alloc, leaf(row.clone()?))?);
-            node.size += 1;
-            node.levels += 1;
-            Ok(Growth::Grew)
-        }
-        Above::Right => {
-            node.right = Some(Rc::new(alloc, leaf(row.clone()?))?);
-            Ok(Growth::Over)
-        }
-        Above::Left => {
-            let upper = row.clone()?;
-            node.left = Some(Rc::new(alloc, leaf(node.row.clone()?))?);
-            node.row = upper;
+            *far = alone(alloc, middle)?;
+            *middle = upper;
             Ok(Growth::Over)
         }
     }

@@ -1,17 +1,15 @@
 //! A row more in a tree, which stays balanced.
-ghost use Rattle.std.specs.Prelude.{◌≡◌, if◌then◌else◌, nat_lt, IfOk, OnOk, OnErr};
-ghost use Rattle.std.specs.declared.cmp.Ordering.TheVariants.{Less, Greater};
+ghost use Rattle.std.specs.Prelude.{◌≡◌, ◌<◌, IfOk, OnOk, OnErr};
+ghost use Rattle.values.specs.declared.limits.TheConstants.{MOST_ROWS};
 ghost use Rattle.record_rules.specs.Clients.{client_cmp, IsNumberOf};
-ghost use Rattle.record_table.specs.declared.node.Node.{out-Node};
-ghost use Rattle.record_table.specs.Trees.{tree_of, tree_under, IsReady, IsPutIn};
-ghost use Rattle.record_table.specs.Growths.{IsPut};
-ghost use Rattle.record_table.specs.declared.growth.Above.TheVariants.{Open};
+ghost use Rattle.record_table.specs.Trees.{tree_of, tree_under, size_of, levels_of, IsReady, IsPutIn};
+ghost use Rattle.record_table.specs.Growths.{toward, forked_at, counted, IsPut};
 
-use crate::growth::{Above, Growth};
-use crate::hang::{hang_left, hang_right};
-use crate::node::{Link, Node, leaf, levels, unshare};
+use crate::growth::{Growth, Side};
+use crate::hang::hang;
+use crate::node::{Link, Node, alone, levels, unshare};
 use crate::order::number_of;
-use crate::rotate::{turn_left, turn_right};
+use crate::rotate::turn;
 use std::alloc::Global;
 use std::mem;
 use std::rc::Rc;
@@ -31,96 +29,91 @@ pub fn insert(alloc: Global, link: &mut Link, number: u128, row: &Rc<Row>) -> Re
             let Some(node) = Rc::get_mut(rc) else {
                 return Err(Memory);
             };
-            put_in(alloc, node, number, row, Above::Open)?;
+            put_in(alloc, node, number, row, None)?;
             Ok(())
         }
         None => {
-            *link = Some(Rc::new(alloc, leaf(row.clone()?))?);
+            *link = alone(alloc, row)?;
             Ok(())
         }
     }
 }
 
 /// The same in the tree of a node. Every step that may fail comes before the first row is moved, so a rotation on the way
-/// back up needs no memory.
+/// back up needs no memory. Where the tree is the higher side of the node above, that side is told.
 #[cycle(put)]
 fn put_in(
     alloc: Global,
     node: &mut Node,
     number: u128,
     row: &Rc<Row>,
-    above: Above,
+    above: Option<Side>,
 ) -> Result<Growth, Memory>
     requires number { IsNumberOf row.now.value.client number }
     requires ready { IsReady (tree_of node.old) row.now.value.client }
     ensures ok { IfOk result (λ growth. IsPut above growth (tree_of node.old) row.now.value (tree_of node.new)) }
     ensures err { OnErr result (tree_of node.new ≡ tree_of node.old) }
 {
-    if number < number_of(&node.row.client) {
-        put_left(alloc, node, number, row, above)
+    let (left, middle, right) = (&mut node.left, &mut node.row, &mut node.right);
+    if number < number_of(&middle.client) {
+        let growth = put_at(alloc, Side::Left, left, middle, right, number, row, above)?;
+        count(node, growth);
+        Ok(growth)
     } else {
-        put_right(alloc, node, number, row, above)
+        let growth = put_at(alloc, Side::Right, right, middle, left, number, row, above)?;
+        count(node, growth);
+        Ok(growth)
     }
 }
 
-/// How a node stands to its side of so many levels, where the other side has so many: the side may grow unless it is the
-/// higher one.
-fn side_of(higher: Above, other: u32, low: u32) -> Above
-    ensures { result ≡ (if nat_lt other low then higher else Open) }
-{
-    if other < low { higher } else { Above::Open }
-}
-
-/// The same where the row goes to the left side.
+/// The same at a row between two trees, where the new row goes to the one on this side.
 #[cycle(put)]
-fn put_left(
+#[inline(always)]
+fn put_at(
     alloc: Global,
-    node: &mut Node,
+    side: Side,
+    near: &mut Link,
+    middle: &mut Rc<Row>,
+    far: &mut Link,
     number: u128,
     row: &Rc<Row>,
-    above: Above,
+    above: Option<Side>,
 ) -> Result<Growth, Memory>
     requires number { IsNumberOf row.now.value.client number }
-    requires ready { IsReady (tree_of node.old) row.now.value.client }
-    requires before { client_cmp row.now.value.client (out-Node node.old).row.value.client ≡ Less }
-    ensures ok { IfOk result (λ growth. IsPut above growth (tree_of node.old) row.now.value (tree_of node.new)) }
-    ensures err { OnErr result (tree_of node.new ≡ tree_of node.old) }
+    requires ready { IsReady (forked_at side (tree_under near.old) middle.old.value (tree_under far.old)) row.now.value.client }
+    requires toward { client_cmp row.now.value.client middle.old.value.client ≡ toward side }
+    ensures ok { IfOk result (λ growth. IsPut above growth (forked_at side (tree_under near.old) middle.old.value (tree_under far.old)) row.now.value
+        (forked_at side (tree_under near.new) middle.new.value (tree_under far.new))) }
+    ensures near { OnErr result (tree_under near.new ≡ tree_under near.old) }
+    ensures middle { OnErr result (middle.new.value ≡ middle.old.value) }
+    ensures far { OnErr result (tree_under far.new ≡ tree_under far.old) }
 {
-    let other_levels = levels(&node.right);
-    let Some(rc) = &mut node.left else {
-        return hang_left(alloc, node, row, above);
+    let far_levels = levels(far);
+    let Some(rc) = near else {
+        return hang(alloc, side, near, middle, far, row, above);
     };
     unshare(alloc, rc)?;
     let Some(low) = Rc::get_mut(rc) else {
         return Err(Memory);
     };
-    let side = side_of(Above::Left, other_levels, low.levels);
-    match put_in(alloc, low, number, row, side)? {
-        Growth::Counted => {
-            node.size += 1;
-            Ok(Growth::Counted)
-        }
+    let higher = (far_levels < low.levels).then_some(side);
+    match put_in(alloc, low, number, row, higher)? {
+        Growth::Counted => Ok(Growth::Counted),
         Growth::Over => {
-            turn_right(low, &mut node.row, &mut node.right);
-            mem::swap(&mut node.left, &mut node.right);
-            node.size += 1;
+            turn(side, low, middle, far);
+            mem::swap(near, far);
             Ok(Growth::Counted)
         }
         Growth::Grew => {
-            if low.levels <= other_levels {
-                node.size += 1;
+            if low.levels <= far_levels {
                 return Ok(Growth::Counted);
             }
             match above {
-                Above::Open => {
-                    node.size += 1;
-                    node.levels += 1;
-                    Ok(Growth::Grew)
-                }
-                Above::Left => Ok(Growth::Over),
-                Above::Right => {
-                    turn_right(low, &mut node.row, &mut node.right);
-                    mem::swap(&mut node.left, &mut node.right);
+                None => Ok(Growth::Grew),
+                Some(higher) if higher == side => Ok(Growth::Over),
+                Some(_) => {
+                    turn(side, low, middle, far);
+                    mem::swap(near, far);
                     Ok(Growth::Over)
                 }
             }
@@ -128,59 +121,19 @@ fn put_left(
     }
 }
 
-/// The same where the row goes to the right side.
-#[cycle(put)]
-fn put_right(
-    alloc: Global,
-    node: &mut Node,
-    number: u128,
-    row: &Rc<Row>,
-    above: Above,
-) -> Result<Growth, Memory>
-    requires number { IsNumberOf row.now.value.client number }
-    requires ready { IsReady (tree_of node.old) row.now.value.client }
-    requires behind { client_cmp row.now.value.client (out-Node node.old).row.value.client ≡ Greater }
-    ensures ok { IfOk result (λ growth. IsPut above growth (tree_of node.old) row.now.value (tree_of node.new)) }
-    ensures err { OnErr result (tree_of node.new ≡ tree_of node.old) }
+/// Writes down what a row more has made of the tree of a node.
+#[inline(always)]
+fn count(node: &mut Node, growth: Growth)
+    requires size { size_of (tree_of node.old) < MOST_ROWS }
+    requires levels { levels_of (tree_of node.old) < MOST_ROWS }
+    ensures { tree_of node.new ≡ counted growth (tree_of node.old) }
 {
-    let other_levels = levels(&node.left);
-    let Some(rc) = &mut node.right else {
-        return hang_right(alloc, node, row, above);
-    };
-    unshare(alloc, rc)?;
-    let Some(low) = Rc::get_mut(rc) else {
-        return Err(Memory);
-    };
-    let side = side_of(Above::Right, other_levels, low.levels);
-    match put_in(alloc, low, number, row, side)? {
-        Growth::Counted => {
-            node.size += 1;
-            Ok(Growth::Counted)
-        }
-        Growth::Over => {
-            turn_left(low, &mut node.row, &mut node.left);
-            mem::swap(&mut node.left, &mut node.right);
-            node.size += 1;
-            Ok(Growth::Counted)
-        }
+    match growth {
+        Growth::Counted => node.size += 1,
         Growth::Grew => {
-            if low.levels <= other_levels {
-                node.size += 1;
-                return Ok(Growth::Counted);
-            }
-            match above {
-                Above::Open => {
-                    node.size += 1;
-                    node.levels += 1;
-                    Ok(Growth::Grew)
-                }
-                Above::Right => Ok(Growth::Over),
-                Above::Left => {
-                    turn_left(low, &mut node.row, &mut node.left);
-                    mem::swap(&mut node.left, &mut node.right);
-                    Ok(Growth::Over)
-                }
-            }
+            node.size += 1;
+            node.levels += 1;
         }
+        Growth::Over => {}
     }
 }

@@ -73,17 +73,18 @@ pub fn fork_levels(left: &Link, right: &Link) -> u32
     levels(left).max(levels(right)) + 1
 }
 
-/// The node of a row alone.
-pub fn leaf(row: Rc<Row>) -> Node
-    ensures { tree_of result ≡ forked Empty row.value Empty }
+/// The tree of a row alone.
+pub fn alone(alloc: Global, row: &Rc<Row>) -> Result<Link, Memory>
+    ensures { IfOk result (λ link. tree_under link ≡ forked Empty row.now.value Empty) }
 {
-    Node {
+    let node = Node {
         left: None,
-        row,
+        row: row.clone()?,
         right: None,
         size: 1,
         levels: 1,
-    }
+    };
+    Ok(Some(Rc::new(alloc, node)?))
 }
 
 /// A node of the same row and the same trees.

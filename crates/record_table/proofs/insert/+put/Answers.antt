@@ -1,277 +1,96 @@
-use Rattle.std.proofs.Common.{rules}
-use Rattle.record_table.specs.declared.node.Node.{out-Node}
-use Rattle.record_table.specs.Trees.{tree_of, tree_under, IsReady}
-use Rattle.record_table.specs.Growths.{IsHigher}
+use Rattle.std.proofs.Common.{rules, arith, ◌≡◌, ◌<◌, ◌∙◌, length, ap, sym, subst}
+use Rattle.values.specs.declared.limits.TheConstants.{MOST_ROWS}
+use Rattle.record_table.specs.Trees.{tree_of, tree_under, rows_of, size_of, levels_of, IsReady}
+use Rattle.record_table.specs.Growths.{forked_at, IsOverAt}
+use Rattle.record_table.proofs.Nodes.{tree_roll}
+use Rattle.record_table.proofs.RowIn.{number_at, less, more}
+use Rattle.record_table.proofs.Growing.{ready_at}
+use Rattle.record_table.proofs.AtNode.{under_at, shorter_at, few_over, few_grew, at_level, at_counted, at_turned, at_grown, at_over, at_inner, rows_node, ready_node, size_few, levels_fit, put_in_node}
 use Rattle.record_table.proofs.insert.+put.Goals as goal
-use Rattle.std.proofs.Common.{arith, refl, sym, ap, ◌∙◌}
-use Rattle.record_table.specs.declared.node.Node.TheViews.{the_lemmas, roll-Node, out-roll-Node, roll-out-Node}
-use Rattle.std.proofs.Common.{subst}
-use Rattle.record_table.specs.Trees.{levels_of, rows_of}
-use Rattle.record_table.proofs.Nodes.{tree_out}
-use Rattle.record_table.proofs.RowIn.{number_at, less, more, ready_left, ready_right}
-use Rattle.record_table.proofs.AtNode.{at_grown_left, at_over_left, at_counted_left, at_level_left, at_inner_left, at_turned_left, opened_left, at_grown_right, at_over_right, at_counted_right, at_level_right, at_inner_right, at_turned_right, opened_right}
-use Rattle.record_table.proofs.PutLeft.{turned_whole, inner_whole, grown_with_left, level_few, with_left, few_inner, balanced_other, balanced_inner, counted_with_left, shorter_left, under_at, size_few, is_counted, is_grew, is_over}
-use Rattle.record_table.proofs.PutRight.{grown_with_right, with_right, counted_with_right, shorter_right}
-use Rattle.record_table.proofs.PutRight as right
 
--- src/insert.rt:64:9
-pub put_in-put_left-requires : goal.put_in-put_left-requires
-put_in-put_left-requires t c =
+pub put_at-put_in-requires : goal.put_at-put_in-requires
+put_at-put_in-requires t c =
+    let under = under_at c.args.near.now c.in-Some.rc c.unshare.new.node c.in-Some-get_mut.low.now c.in-Some.is c.unshare.ensures c.in-Some-get_mut.ensures.value in
+    let short = subst (λ u. length (rows_of u) < length (rows_of (forked_at c.args.side (tree_under c.args.near.now) c.args.middle.now.value (tree_under c.args.far.now)))) under
+    (shorter_at c.args.side (tree_under c.args.near.now) (tree_under c.args.far.now) c.args.middle.now.value) in
+    (search (rules, short), (c.requires.number, subst (λ u. IsReady u c.args.row.now.value.client) under (ready_at c.args.side (tree_under c.args.near.now) (tree_under c.args.far.now) c.args.middle.now.value c.args.row.now.value c.requires.ready c.requires.toward)))
+
+pub put_at-turn-requires-clause-few : goal.put_at-turn-requires-clause-few
+put_at-turn-requires-clause-few t c =
+    let under = under_at c.args.near.now c.in-Some.rc c.unshare.new.node c.in-Some-get_mut.low.now c.in-Some.is c.unshare.ensures c.in-Some-get_mut.ensures.value in
+    few_over c.args.side (tree_under c.args.near.now) (tree_under c.args.far.now) c.args.middle.now.value c.args.row.now.value c.requires.ready c.requires.toward c.in-Some-get_mut.low.now c.put_in.new.node under c.levels-far_levels.result c.levels-far_levels.ensures c.then_some-higher.result c.then_some-higher.ensures c.in_ok-put_in.field-0 c.in_ok-put_in.ensures.ok c.in-Over.is
+
+pub put_at-turn-requires-in-Some-2-clause-few : goal.put_at-turn-requires-in-Some-2-clause-few
+put_at-turn-requires-in-Some-2-clause-few t c =
+    let under = under_at c.args.near.now c.in-Some.rc c.unshare.new.node c.in-Some-get_mut.low.now c.in-Some.is c.unshare.ensures c.in-Some-get_mut.ensures.value in
+    few_grew c.args.side (tree_under c.args.near.now) (tree_under c.args.far.now) c.args.middle.now.value c.args.row.now.value c.requires.ready c.requires.toward c.in-Some-get_mut.low.now c.put_in.new.node under c.levels-far_levels.result c.levels-far_levels.ensures c.then_some-higher.result c.then_some-higher.ensures c.in_ok-put_in.field-0 c.in_ok-put_in.ensures.ok c.in-Grew.is
+
+pub put_at-returns-then-low-far_levels-clause-ok : goal.put_at-returns-then-low-far_levels-clause-ok
+put_at-returns-then-low-far_levels-clause-ok t c =
+    let under = under_at c.args.near.now c.in-Some.rc c.unshare.new.node c.in-Some-get_mut.low.now c.in-Some.is c.unshare.ensures c.in-Some-get_mut.ensures.value in
+    at_level c.args.side (tree_under c.args.near.now) (tree_under c.args.far.now) c.args.middle.now.value c.args.row.now.value c.requires.ready c.requires.toward c.in-Some-get_mut.low.now c.put_in.new.node under c.levels-far_levels.result c.levels-far_levels.ensures c.then_some-higher.result c.then_some-higher.ensures c.in_ok-put_in.field-0 c.in_ok-put_in.ensures.ok c.in-Grew.is c.if-low-far_levels.true
+
+pub put_at-returns-in-Counted-clause-ok : goal.put_at-returns-in-Counted-clause-ok
+put_at-returns-in-Counted-clause-ok t c =
+    let under = under_at c.args.near.now c.in-Some.rc c.unshare.new.node c.in-Some-get_mut.low.now c.in-Some.is c.unshare.ensures c.in-Some-get_mut.ensures.value in
+    at_counted c.args.side (tree_under c.args.near.now) (tree_under c.args.far.now) c.args.middle.now.value c.args.row.now.value c.requires.ready c.requires.toward c.in-Some-get_mut.low.now c.put_in.new.node under c.levels-far_levels.result c.levels-far_levels.ensures c.then_some-higher.result c.then_some-higher.ensures c.in_ok-put_in.field-0 c.in_ok-put_in.ensures.ok c.in-Counted.is
+
+pub put_at-returns-in-Over-clause-ok : goal.put_at-returns-in-Over-clause-ok
+put_at-returns-in-Over-clause-ok t c =
+    let under = under_at c.args.near.now c.in-Some.rc c.unshare.new.node c.in-Some-get_mut.low.now c.in-Some.is c.unshare.ensures c.in-Some-get_mut.ensures.value in
+    at_turned c.args.side (tree_under c.args.near.now) (tree_under c.args.far.now) c.args.middle.now.value c.args.row.now.value c.requires.ready c.requires.toward c.in-Some-get_mut.low.now c.put_in.new.node under c.levels-far_levels.result c.levels-far_levels.ensures c.then_some-higher.result c.then_some-higher.ensures c.in_ok-put_in.field-0 c.in_ok-put_in.ensures.ok
+    (tree_under c.swap.new.x) (tree_under c.swap.new.y) c.turn.new.row.value (ap tree_under c.swap.ensures.x_after ∙ c.turn.ensures.other) (ap tree_under c.swap.ensures.y_after ∙ c.turn.ensures.low) c.turn.ensures.row c.in-Over.is
+
+pub put_at-returns-in-None-clause-ok : goal.put_at-returns-in-None-clause-ok
+put_at-returns-in-None-clause-ok t c =
+    let under = under_at c.args.near.now c.in-Some.rc c.unshare.new.node c.in-Some-get_mut.low.now c.in-Some.is c.unshare.ensures c.in-Some-get_mut.ensures.value in
+    rw c.in-None.is (at_grown c.args.side (tree_under c.args.near.now) (tree_under c.args.far.now) c.args.middle.now.value c.args.row.now.value c.requires.ready c.requires.toward c.in-Some-get_mut.low.now c.put_in.new.node under c.levels-far_levels.result c.levels-far_levels.ensures c.then_some-higher.result c.then_some-higher.ensures c.in_ok-put_in.field-0 c.in_ok-put_in.ensures.ok c.in-Grew.is (let high = c.if-low-far_levels.false in omega arith))
+
+pub put_at-returns-in-Some-above-clause-ok : goal.put_at-returns-in-Some-above-clause-ok
+put_at-returns-in-Some-above-clause-ok t c =
+    let under = under_at c.args.near.now c.in-Some.rc c.unshare.new.node c.in-Some-get_mut.low.now c.in-Some.is c.unshare.ensures c.in-Some-get_mut.ensures.value in
+    let same : c.args.side ≡ c.in-Some-above.higher = search rules in
+    rw c.in-Some-above.is (subst (λ s. IsOverAt s (forked_at c.args.side (tree_under c.args.near.now) c.args.middle.now.value (tree_under c.args.far.now)) c.args.row.now.value (forked_at c.args.side (tree_of c.put_in.new.node) c.args.middle.now.value (tree_under c.args.far.now))) same
+    (at_over c.args.side (tree_under c.args.near.now) (tree_under c.args.far.now) c.args.middle.now.value c.args.row.now.value c.requires.ready c.requires.toward c.in-Some-get_mut.low.now c.put_in.new.node under c.levels-far_levels.result c.levels-far_levels.ensures c.then_some-higher.result c.then_some-higher.ensures c.in_ok-put_in.field-0 c.in_ok-put_in.ensures.ok c.in-Grew.is (let high = c.if-low-far_levels.false in omega arith)))
+
+pub put_at-returns-in-Some-2-clause-ok : goal.put_at-returns-in-Some-2-clause-ok
+put_at-returns-in-Some-2-clause-ok t c =
+    let under = under_at c.args.near.now c.in-Some.rc c.unshare.new.node c.in-Some-get_mut.low.now c.in-Some.is c.unshare.ensures c.in-Some-get_mut.ensures.value in
+    rw c.in-Some-above.is (at_inner c.args.side (tree_under c.args.near.now) (tree_under c.args.far.now) c.args.middle.now.value c.args.row.now.value c.requires.ready c.requires.toward c.in-Some-get_mut.low.now c.put_in.new.node under c.levels-far_levels.result c.levels-far_levels.ensures c.then_some-higher.result c.then_some-higher.ensures c.in_ok-put_in.field-0 c.in_ok-put_in.ensures.ok
+    (tree_under c.swap-in-Some-2.new.x) (tree_under c.swap-in-Some-2.new.y) c.turn-in-Some-2.new.row.value (ap tree_under c.swap-in-Some-2.ensures.x_after ∙ c.turn-in-Some-2.ensures.other) (ap tree_under c.swap-in-Some-2.ensures.y_after ∙ c.turn-in-Some-2.ensures.low) c.turn-in-Some-2.ensures.row c.in-Some-above.higher (λ is. let same = is in search rules) c.in-Grew.is (let high = c.if-low-far_levels.false in omega arith))
+
+pub put_in-put_at-requires : goal.put_in-put_at-requires
+put_in-put_at-requires t c =
     let other = number_at c.args.node.now c.deref.result.now c.number_of.result c.deref.ensures c.number_of.ensures in
-    (search rules, (c.requires.number, (c.requires.ready, less c.args.node.now c.args.row.now.value c.args.number c.number_of.result c.requires.number other c.requires.ready c.if-number-number_of.true)))
+    let same = rows_node c.args.node.now c.args.row.now.value c.requires.ready in
+    (search (rules, same), (c.requires.number, (ready_node c.args.node.now c.args.row.now.value c.requires.ready, less c.args.node.now c.args.row.now.value c.args.number c.number_of.result c.requires.number other c.requires.ready c.if-number-number_of.true)))
 
--- src/insert.rt:66:9
-pub put_in-put_right-requires : goal.put_in-put_right-requires
-put_in-put_right-requires t c =
+pub put_in-count-requires-clause-size : goal.put_in-count-requires-clause-size
+put_in-count-requires-clause-size t c =
+    subst (λ size. size < MOST_ROWS) (sym (ap size_of (tree_roll _))) (size_few c.args.node.now c.args.row.now.value c.requires.ready)
+
+pub put_in-count-requires-clause-levels : goal.put_in-count-requires-clause-levels
+put_in-count-requires-clause-levels t c =
+    subst (λ levels. levels < MOST_ROWS) (sym (ap levels_of (tree_roll _))) (levels_fit c.args.node.now c.args.row.now.value c.requires.ready)
+
+pub put_in-put_at-requires-else-number-number_of : goal.put_in-put_at-requires-else-number-number_of
+put_in-put_at-requires-else-number-number_of t c =
     let other = number_at c.args.node.now c.deref.result.now c.number_of.result c.deref.ensures c.number_of.ensures in
-    (search rules, (c.requires.number, (c.requires.ready, more c.args.node.now c.args.row.now.value c.args.number c.number_of.result c.requires.number other c.requires.ready c.if-number-number_of.false)))
+    let same = rows_node c.args.node.now c.args.row.now.value c.requires.ready in
+    (search (rules, same), (c.requires.number, (ready_node c.args.node.now c.args.row.now.value c.requires.ready, more c.args.node.now c.args.row.now.value c.args.number c.number_of.result c.requires.number other c.requires.ready c.if-number-number_of.false)))
 
--- src/insert.rt:98:11
-pub put_left-put_in-requires : goal.put_left-put_in-requires
-put_left-put_in-requires t c =
-    let under = under_at (out-Node c.args.node.now).left c.in-Some.rc c.unshare.new.node c.in-Some-get_mut.low.now (ap (λ m. m.left) (sym (out-roll-Node (out-Node c.args.node.now))) ∙ c.in-Some.is) c.unshare.ensures c.in-Some-get_mut.ensures.value in
-    let short = shorter_left c.args.node.now c.in-Some-get_mut.low.now under in
-    (search (rules, short), (c.requires.number, subst (λ u. IsReady u c.args.row.now.value.client) under (ready_left (tree_under (out-Node c.args.node.now).left) (tree_under (out-Node c.args.node.now).right) (out-Node c.args.node.now).row.value c.args.row.now.value (out-Node c.args.node.now).size (out-Node c.args.node.now).levels (opened_left c.args.node.now c.args.row.now.value c.requires.ready c.requires.before) c.requires.before)))
+pub put_in-count-requires-else-number-number_of-clause-size : goal.put_in-count-requires-else-number-number_of-clause-size
+put_in-count-requires-else-number-number_of-clause-size t c =
+    subst (λ size. size < MOST_ROWS) (sym (ap size_of (tree_roll _))) (size_few c.args.node.now c.args.row.now.value c.requires.ready)
 
--- src/insert.rt:100:13
-pub put_left-overflow_add-node : goal.put_left-overflow_add-node
-put_left-overflow_add-node t c =
-    let few = size_few c.args.node.now c.requires.ready.balanced c.requires.ready.few in
-    search (rules, the_lemmas, few)
+pub put_in-count-requires-else-number-number_of-clause-levels : goal.put_in-count-requires-else-number-number_of-clause-levels
+put_in-count-requires-else-number-number_of-clause-levels t c =
+    subst (λ levels. levels < MOST_ROWS) (sym (ap levels_of (tree_roll _))) (levels_fit c.args.node.now c.args.row.now.value c.requires.ready)
 
--- src/insert.rt:104:13
-pub put_left-turn_right-requires-clause-low : goal.put_left-turn_right-requires-clause-low
-put_left-turn_right-requires-clause-low t c =
-    let under = under_at (out-Node c.args.node.now).left c.in-Some.rc c.unshare.new.node c.in-Some-get_mut.low.now (ap (λ m. m.left) (sym (out-roll-Node (out-Node c.args.node.now))) ∙ c.in-Some.is) c.unshare.ensures c.in-Some-get_mut.ensures.value in
-    (is_over c.args.node.now c.in-Some-get_mut.low.now c.put_in.new.node c.args.row.now.value c.requires.ready c.requires.before under c.side_of-side.result c.in_ok-put_in.field-0 c.in_ok-put_in.ensures.ok c.levels-other_levels.result c.levels-other_levels.ensures c.side_of-side.ensures c.in-Over.is).0.inner_balanced
+pub put_in-returns-in_ok-growth-clause-ok : goal.put_in-returns-in_ok-growth-clause-ok
+put_in-returns-in_ok-growth-clause-ok t c =
+    put_in_node c.args.node.now c.args.row.now.value c.requires.ready c.args.above c.in_ok-growth.growth (tree_under c.put_at.new.near) (tree_under c.put_at.new.far) _ _ _ (tree_roll _) c.count.ensures c.in_ok-growth.ensures.ok
 
--- src/insert.rt:104:13
-pub put_left-turn_right-requires-clause-other : goal.put_left-turn_right-requires-clause-other
-put_left-turn_right-requires-clause-other t c =
-    let under = under_at (out-Node c.args.node.now).left c.in-Some.rc c.unshare.new.node c.in-Some-get_mut.low.now (ap (λ m. m.left) (sym (out-roll-Node (out-Node c.args.node.now))) ∙ c.in-Some.is) c.unshare.ensures c.in-Some-get_mut.ensures.value in
-    balanced_other c.args.node.now c.in-Some-get_mut.low.now c.put_in.new.node c.args.row.now.value c.requires.ready c.requires.before under c.side_of-side.result c.in_ok-put_in.field-0 c.in_ok-put_in.ensures.ok c.levels-other_levels.result c.levels-other_levels.ensures c.side_of-side.ensures
-
--- src/insert.rt:104:13
-pub put_left-turn_right-requires-clause-few : goal.put_left-turn_right-requires-clause-few
-put_left-turn_right-requires-clause-few t c =
-    let under = under_at (out-Node c.args.node.now).left c.in-Some.rc c.unshare.new.node c.in-Some-get_mut.low.now (ap (λ m. m.left) (sym (out-roll-Node (out-Node c.args.node.now))) ∙ c.in-Some.is) c.unshare.ensures c.in-Some-get_mut.ensures.value in
-    few_inner c.args.node.now c.in-Some-get_mut.low.now c.put_in.new.node c.args.row.now.value c.requires.ready c.requires.before under c.side_of-side.result c.in_ok-put_in.field-0 c.in_ok-put_in.ensures.ok c.levels-other_levels.result c.levels-other_levels.ensures c.side_of-side.ensures (ap rows_of (tree_out c.put_in.new.node) ∙ (is_over c.args.node.now c.in-Some-get_mut.low.now c.put_in.new.node c.args.row.now.value c.requires.ready c.requires.before under c.side_of-side.result c.in_ok-put_in.field-0 c.in_ok-put_in.ensures.ok c.levels-other_levels.result c.levels-other_levels.ensures c.side_of-side.ensures c.in-Over.is).0.rows)
-
--- src/insert.rt:106:13
-pub put_left-overflow_add-node-in-Over : goal.put_left-overflow_add-node-in-Over
-put_left-overflow_add-node-in-Over t c =
-    let few = size_few c.args.node.now c.requires.ready.balanced c.requires.ready.few in
-    search (rules, the_lemmas, few)
-
--- src/insert.rt:111:17
-pub put_left-overflow_add-node-then-low-other_levels :
-    goal.put_left-overflow_add-node-then-low-other_levels
-put_left-overflow_add-node-then-low-other_levels t c =
-    let few = size_few c.args.node.now c.requires.ready.balanced c.requires.ready.few in
-    search (rules, the_lemmas, few)
-
--- src/insert.rt:112:17
-pub put_left-returns-then-low-other_levels-clause-ok :
-    goal.put_left-returns-then-low-other_levels-clause-ok
-put_left-returns-then-low-other_levels-clause-ok t c =
-    let under = under_at (out-Node c.args.node.now).left c.in-Some.rc c.unshare.new.node c.in-Some-get_mut.low.now (ap (λ m. m.left) (sym (out-roll-Node (out-Node c.args.node.now))) ∙ c.in-Some.is) c.unshare.ensures c.in-Some-get_mut.ensures.value in
-    let level = ap levels_of (tree_out c.put_in.new.node) in
-    at_level_left c.args.node.now c.args.row.now.value c.requires.ready c.requires.before (tree_of c.put_in.new.node) _ (counted_with_left c.args.node.now _) (is_grew c.args.node.now c.in-Some-get_mut.low.now c.put_in.new.node c.args.row.now.value c.requires.ready c.requires.before under c.side_of-side.result c.in_ok-put_in.field-0 c.in_ok-put_in.ensures.ok c.levels-other_levels.result c.levels-other_levels.ensures c.side_of-side.ensures c.in-Grew.is).0
-    (let low = c.if-low-other_levels.true in let other = c.levels-other_levels.ensures in omega arith)
-
--- src/insert.rt:116:21
-pub put_left-overflow_add-node-in-Open : goal.put_left-overflow_add-node-in-Open
-put_left-overflow_add-node-in-Open t c =
-    let few = size_few c.args.node.now c.requires.ready.balanced c.requires.ready.few in
-    search (rules, the_lemmas, few)
-
--- src/insert.rt:117:21
-pub put_left-overflow_add-node-in-Open-2 : goal.put_left-overflow_add-node-in-Open-2
-put_left-overflow_add-node-in-Open-2 t c =
-    let few = level_few c.args.node.now c.requires.ready.balanced c.requires.ready.few in
-    search (rules, the_lemmas, few)
-
--- src/insert.rt:122:21
-pub put_left-turn_right-requires-in-Right-clause-low :
-    goal.put_left-turn_right-requires-in-Right-clause-low
-put_left-turn_right-requires-in-Right-clause-low t c =
-    let under = under_at (out-Node c.args.node.now).left c.in-Some.rc c.unshare.new.node c.in-Some-get_mut.low.now (ap (λ m. m.left) (sym (out-roll-Node (out-Node c.args.node.now))) ∙ c.in-Some.is) c.unshare.ensures c.in-Some-get_mut.ensures.value in
-    balanced_inner c.args.node.now c.in-Some-get_mut.low.now c.put_in.new.node c.args.row.now.value c.requires.ready c.requires.before under c.side_of-side.result c.in_ok-put_in.field-0 c.in_ok-put_in.ensures.ok c.levels-other_levels.result c.levels-other_levels.ensures c.side_of-side.ensures (is_grew c.args.node.now c.in-Some-get_mut.low.now c.put_in.new.node c.args.row.now.value c.requires.ready c.requires.before under c.side_of-side.result c.in_ok-put_in.field-0 c.in_ok-put_in.ensures.ok c.levels-other_levels.result c.levels-other_levels.ensures c.side_of-side.ensures c.in-Grew.is).0.balanced
-
--- src/insert.rt:122:21
-pub put_left-turn_right-requires-in-Right-clause-other :
-    goal.put_left-turn_right-requires-in-Right-clause-other
-put_left-turn_right-requires-in-Right-clause-other t c =
-    let under = under_at (out-Node c.args.node.now).left c.in-Some.rc c.unshare.new.node c.in-Some-get_mut.low.now (ap (λ m. m.left) (sym (out-roll-Node (out-Node c.args.node.now))) ∙ c.in-Some.is) c.unshare.ensures c.in-Some-get_mut.ensures.value in
-    balanced_other c.args.node.now c.in-Some-get_mut.low.now c.put_in.new.node c.args.row.now.value c.requires.ready c.requires.before under c.side_of-side.result c.in_ok-put_in.field-0 c.in_ok-put_in.ensures.ok c.levels-other_levels.result c.levels-other_levels.ensures c.side_of-side.ensures
-
--- src/insert.rt:122:21
-pub put_left-turn_right-requires-in-Right-clause-few :
-    goal.put_left-turn_right-requires-in-Right-clause-few
-put_left-turn_right-requires-in-Right-clause-few t c =
-    let under = under_at (out-Node c.args.node.now).left c.in-Some.rc c.unshare.new.node c.in-Some-get_mut.low.now (ap (λ m. m.left) (sym (out-roll-Node (out-Node c.args.node.now))) ∙ c.in-Some.is) c.unshare.ensures c.in-Some-get_mut.ensures.value in
-    few_inner c.args.node.now c.in-Some-get_mut.low.now c.put_in.new.node c.args.row.now.value c.requires.ready c.requires.before under c.side_of-side.result c.in_ok-put_in.field-0 c.in_ok-put_in.ensures.ok c.levels-other_levels.result c.levels-other_levels.ensures c.side_of-side.ensures (is_grew c.args.node.now c.in-Some-get_mut.low.now c.put_in.new.node c.args.row.now.value c.requires.ready c.requires.before under c.side_of-side.result c.in_ok-put_in.field-0 c.in_ok-put_in.ensures.ok c.levels-other_levels.result c.levels-other_levels.ensures c.side_of-side.ensures c.in-Grew.is).0.rows
-
--- src/insert.rt:71:1
-pub put_left-returns-in-Counted-clause-ok : goal.put_left-returns-in-Counted-clause-ok
-put_left-returns-in-Counted-clause-ok t c =
-    let under = under_at (out-Node c.args.node.now).left c.in-Some.rc c.unshare.new.node c.in-Some-get_mut.low.now (ap (λ m. m.left) (sym (out-roll-Node (out-Node c.args.node.now))) ∙ c.in-Some.is) c.unshare.ensures c.in-Some-get_mut.ensures.value in
-    at_counted_left c.args.node.now c.args.row.now.value c.requires.ready c.requires.before (tree_of c.put_in.new.node) _ (counted_with_left c.args.node.now _) (is_counted c.args.node.now c.in-Some-get_mut.low.now c.put_in.new.node c.args.row.now.value c.requires.ready c.requires.before under c.side_of-side.result c.in_ok-put_in.field-0 c.in_ok-put_in.ensures.ok c.levels-other_levels.result c.levels-other_levels.ensures c.side_of-side.ensures c.in-Counted.is)
-
--- src/insert.rt:71:1
-pub put_left-returns-in-Over-clause-ok : goal.put_left-returns-in-Over-clause-ok
-put_left-returns-in-Over-clause-ok t c =
-    let under = under_at (out-Node c.args.node.now).left c.in-Some.rc c.unshare.new.node c.in-Some-get_mut.low.now (ap (λ m. m.left) (sym (out-roll-Node (out-Node c.args.node.now))) ∙ c.in-Some.is) c.unshare.ensures c.in-Some-get_mut.ensures.value in
-    at_turned_left c.args.node.now c.args.row.now.value c.requires.ready c.requires.before _ _ _ _ _ _ (turned_whole c.args.node.now (roll-Node (out-Node c.args.node.now)) c.put_in.new.node _ c.swap.new.x c.swap.new.y (roll-out-Node c.args.node.now) c.swap.ensures.x_after c.swap.ensures.y_after c.turn_right.ensures.low c.turn_right.ensures.row c.turn_right.ensures.other refl refl) (is_over c.args.node.now c.in-Some-get_mut.low.now c.put_in.new.node c.args.row.now.value c.requires.ready c.requires.before under c.side_of-side.result c.in_ok-put_in.field-0 c.in_ok-put_in.ensures.ok c.levels-other_levels.result c.levels-other_levels.ensures c.side_of-side.ensures c.in-Over.is).0 (is_over c.args.node.now c.in-Some-get_mut.low.now c.put_in.new.node c.args.row.now.value c.requires.ready c.requires.before under c.side_of-side.result c.in_ok-put_in.field-0 c.in_ok-put_in.ensures.ok c.levels-other_levels.result c.levels-other_levels.ensures c.side_of-side.ensures c.in-Over.is).1
-
--- src/insert.rt:71:1
-pub put_left-returns-in-Open-clause-ok : goal.put_left-returns-in-Open-clause-ok
-put_left-returns-in-Open-clause-ok t c =
-    let under = under_at (out-Node c.args.node.now).left c.in-Some.rc c.unshare.new.node c.in-Some-get_mut.low.now (ap (λ m. m.left) (sym (out-roll-Node (out-Node c.args.node.now))) ∙ c.in-Some.is) c.unshare.ensures c.in-Some-get_mut.ensures.value in
-    let level = ap levels_of (tree_out c.put_in.new.node) in
-    rw c.in-Open.is
-    (at_grown_left c.args.node.now c.args.row.now.value c.requires.ready c.requires.before (tree_of c.put_in.new.node) _ (grown_with_left c.args.node.now _) (is_grew c.args.node.now c.in-Some-get_mut.low.now c.put_in.new.node c.args.row.now.value c.requires.ready c.requires.before under c.side_of-side.result c.in_ok-put_in.field-0 c.in_ok-put_in.ensures.ok c.levels-other_levels.result c.levels-other_levels.ensures c.side_of-side.ensures c.in-Grew.is).0 (is_grew c.args.node.now c.in-Some-get_mut.low.now c.put_in.new.node c.args.row.now.value c.requires.ready c.requires.before under c.side_of-side.result c.in_ok-put_in.field-0 c.in_ok-put_in.ensures.ok c.levels-other_levels.result c.levels-other_levels.ensures c.side_of-side.ensures c.in-Grew.is).1
-    (let high = c.if-low-other_levels.false in let other = c.levels-other_levels.ensures in omega arith))
-
--- src/insert.rt:71:1
-pub put_left-returns-in-Left-clause-ok : goal.put_left-returns-in-Left-clause-ok
-put_left-returns-in-Left-clause-ok t c =
-    let under = under_at (out-Node c.args.node.now).left c.in-Some.rc c.unshare.new.node c.in-Some-get_mut.low.now (ap (λ m. m.left) (sym (out-roll-Node (out-Node c.args.node.now))) ∙ c.in-Some.is) c.unshare.ensures c.in-Some-get_mut.ensures.value in
-    let level = ap levels_of (tree_out c.put_in.new.node) in
-    rw c.in-Left.is
-    (at_over_left c.args.node.now c.args.row.now.value c.requires.ready c.requires.before (tree_of c.put_in.new.node) _ _ _ (with_left c.args.node.now _) (is_grew c.args.node.now c.in-Some-get_mut.low.now c.put_in.new.node c.args.row.now.value c.requires.ready c.requires.before under c.side_of-side.result c.in_ok-put_in.field-0 c.in_ok-put_in.ensures.ok c.levels-other_levels.result c.levels-other_levels.ensures c.side_of-side.ensures c.in-Grew.is).0 (is_grew c.args.node.now c.in-Some-get_mut.low.now c.put_in.new.node c.args.row.now.value c.requires.ready c.requires.before under c.side_of-side.result c.in_ok-put_in.field-0 c.in_ok-put_in.ensures.ok c.levels-other_levels.result c.levels-other_levels.ensures c.side_of-side.ensures c.in-Grew.is).1
-    (let high = c.if-low-other_levels.false in let other = c.levels-other_levels.ensures in omega arith))
-
--- src/insert.rt:71:1
-pub put_left-returns-in-Right-clause-ok : goal.put_left-returns-in-Right-clause-ok
-put_left-returns-in-Right-clause-ok t c =
-    let under = under_at (out-Node c.args.node.now).left c.in-Some.rc c.unshare.new.node c.in-Some-get_mut.low.now (ap (λ m. m.left) (sym (out-roll-Node (out-Node c.args.node.now))) ∙ c.in-Some.is) c.unshare.ensures c.in-Some-get_mut.ensures.value in
-    let level = ap levels_of (tree_out c.put_in.new.node) in
-    rw c.in-Right.is
-    (at_inner_left c.args.node.now c.args.row.now.value c.requires.ready c.requires.before _ _ _ _ _ _ _ _ (inner_whole c.args.node.now (roll-Node (out-Node c.args.node.now)) c.put_in.new.node _ c.swap-in-Right.new.x c.swap-in-Right.new.y (roll-out-Node c.args.node.now) c.swap-in-Right.ensures.x_after c.swap-in-Right.ensures.y_after c.turn_right-in-Right.ensures.low c.turn_right-in-Right.ensures.row c.turn_right-in-Right.ensures.other refl refl) (subst (λ w. IsHigher 1 (tree_under (out-Node c.args.node.now).left) c.args.row.now.value w) (tree_out c.put_in.new.node) (is_grew c.args.node.now c.in-Some-get_mut.low.now c.put_in.new.node c.args.row.now.value c.requires.ready c.requires.before under c.side_of-side.result c.in_ok-put_in.field-0 c.in_ok-put_in.ensures.ok c.levels-other_levels.result c.levels-other_levels.ensures c.side_of-side.ensures c.in-Grew.is).0) (is_grew c.args.node.now c.in-Some-get_mut.low.now c.put_in.new.node c.args.row.now.value c.requires.ready c.requires.before under c.side_of-side.result c.in_ok-put_in.field-0 c.in_ok-put_in.ensures.ok c.levels-other_levels.result c.levels-other_levels.ensures c.side_of-side.ensures c.in-Grew.is).1
-    (let high = c.if-low-other_levels.false in let other = c.levels-other_levels.ensures in omega arith))
-
--- src/insert.rt:159:11
-pub put_right-put_in-requires : goal.put_right-put_in-requires
-put_right-put_in-requires t c =
-    let under = under_at (out-Node c.args.node.now).right c.in-Some.rc c.unshare.new.node c.in-Some-get_mut.low.now (ap (λ m. m.right) (sym (out-roll-Node (out-Node c.args.node.now))) ∙ c.in-Some.is) c.unshare.ensures c.in-Some-get_mut.ensures.value in
-    let short = shorter_right c.args.node.now c.in-Some-get_mut.low.now under in
-    (search (rules, short), (c.requires.number, subst (λ u. IsReady u c.args.row.now.value.client) under (ready_right (tree_under (out-Node c.args.node.now).left) (tree_under (out-Node c.args.node.now).right) (out-Node c.args.node.now).row.value c.args.row.now.value (out-Node c.args.node.now).size (out-Node c.args.node.now).levels (opened_right c.args.node.now c.args.row.now.value c.requires.ready c.requires.behind) c.requires.behind)))
-
--- src/insert.rt:161:13
-pub put_right-overflow_add-node : goal.put_right-overflow_add-node
-put_right-overflow_add-node t c =
-    let few = size_few c.args.node.now c.requires.ready.balanced c.requires.ready.few in
-    search (rules, the_lemmas, few)
-
--- src/insert.rt:165:13
-pub put_right-turn_left-requires-clause-low : goal.put_right-turn_left-requires-clause-low
-put_right-turn_left-requires-clause-low t c =
-    let under = under_at (out-Node c.args.node.now).right c.in-Some.rc c.unshare.new.node c.in-Some-get_mut.low.now (ap (λ m. m.right) (sym (out-roll-Node (out-Node c.args.node.now))) ∙ c.in-Some.is) c.unshare.ensures c.in-Some-get_mut.ensures.value in
-    (right.is_over c.args.node.now c.in-Some-get_mut.low.now c.put_in.new.node c.args.row.now.value c.requires.ready c.requires.behind under c.side_of-side.result c.in_ok-put_in.field-0 c.in_ok-put_in.ensures.ok c.levels-other_levels.result c.levels-other_levels.ensures c.side_of-side.ensures c.in-Over.is).0.inner_balanced
-
--- src/insert.rt:165:13
-pub put_right-turn_left-requires-clause-other : goal.put_right-turn_left-requires-clause-other
-put_right-turn_left-requires-clause-other t c =
-    let under = under_at (out-Node c.args.node.now).right c.in-Some.rc c.unshare.new.node c.in-Some-get_mut.low.now (ap (λ m. m.right) (sym (out-roll-Node (out-Node c.args.node.now))) ∙ c.in-Some.is) c.unshare.ensures c.in-Some-get_mut.ensures.value in
-    right.balanced_other c.args.node.now c.in-Some-get_mut.low.now c.put_in.new.node c.args.row.now.value c.requires.ready c.requires.behind under c.side_of-side.result c.in_ok-put_in.field-0 c.in_ok-put_in.ensures.ok c.levels-other_levels.result c.levels-other_levels.ensures c.side_of-side.ensures
-
--- src/insert.rt:165:13
-pub put_right-turn_left-requires-clause-few : goal.put_right-turn_left-requires-clause-few
-put_right-turn_left-requires-clause-few t c =
-    let under = under_at (out-Node c.args.node.now).right c.in-Some.rc c.unshare.new.node c.in-Some-get_mut.low.now (ap (λ m. m.right) (sym (out-roll-Node (out-Node c.args.node.now))) ∙ c.in-Some.is) c.unshare.ensures c.in-Some-get_mut.ensures.value in
-    right.few_inner c.args.node.now c.in-Some-get_mut.low.now c.put_in.new.node c.args.row.now.value c.requires.ready c.requires.behind under c.side_of-side.result c.in_ok-put_in.field-0 c.in_ok-put_in.ensures.ok c.levels-other_levels.result c.levels-other_levels.ensures c.side_of-side.ensures (ap rows_of (tree_out c.put_in.new.node) ∙ (right.is_over c.args.node.now c.in-Some-get_mut.low.now c.put_in.new.node c.args.row.now.value c.requires.ready c.requires.behind under c.side_of-side.result c.in_ok-put_in.field-0 c.in_ok-put_in.ensures.ok c.levels-other_levels.result c.levels-other_levels.ensures c.side_of-side.ensures c.in-Over.is).0.rows)
-
--- src/insert.rt:167:13
-pub put_right-overflow_add-node-in-Over : goal.put_right-overflow_add-node-in-Over
-put_right-overflow_add-node-in-Over t c =
-    let few = size_few c.args.node.now c.requires.ready.balanced c.requires.ready.few in
-    search (rules, the_lemmas, few)
-
--- src/insert.rt:172:17
-pub put_right-overflow_add-node-then-low-other_levels :
-    goal.put_right-overflow_add-node-then-low-other_levels
-put_right-overflow_add-node-then-low-other_levels t c =
-    let few = size_few c.args.node.now c.requires.ready.balanced c.requires.ready.few in
-    search (rules, the_lemmas, few)
-
--- src/insert.rt:173:17
-pub put_right-returns-then-low-other_levels-clause-ok :
-    goal.put_right-returns-then-low-other_levels-clause-ok
-put_right-returns-then-low-other_levels-clause-ok t c =
-    let under = under_at (out-Node c.args.node.now).right c.in-Some.rc c.unshare.new.node c.in-Some-get_mut.low.now (ap (λ m. m.right) (sym (out-roll-Node (out-Node c.args.node.now))) ∙ c.in-Some.is) c.unshare.ensures c.in-Some-get_mut.ensures.value in
-    let level = ap levels_of (tree_out c.put_in.new.node) in
-    at_level_right c.args.node.now c.args.row.now.value c.requires.ready c.requires.behind (tree_of c.put_in.new.node) _ (counted_with_right c.args.node.now _) (right.is_grew c.args.node.now c.in-Some-get_mut.low.now c.put_in.new.node c.args.row.now.value c.requires.ready c.requires.behind under c.side_of-side.result c.in_ok-put_in.field-0 c.in_ok-put_in.ensures.ok c.levels-other_levels.result c.levels-other_levels.ensures c.side_of-side.ensures c.in-Grew.is).0
-    (let low = c.if-low-other_levels.true in let other = c.levels-other_levels.ensures in omega arith)
-
--- src/insert.rt:177:21
-pub put_right-overflow_add-node-in-Open : goal.put_right-overflow_add-node-in-Open
-put_right-overflow_add-node-in-Open t c =
-    let few = size_few c.args.node.now c.requires.ready.balanced c.requires.ready.few in
-    search (rules, the_lemmas, few)
-
--- src/insert.rt:178:21
-pub put_right-overflow_add-node-in-Open-2 : goal.put_right-overflow_add-node-in-Open-2
-put_right-overflow_add-node-in-Open-2 t c =
-    let few = level_few c.args.node.now c.requires.ready.balanced c.requires.ready.few in
-    search (rules, the_lemmas, few)
-
--- src/insert.rt:183:21
-pub put_right-turn_left-requires-in-Left-clause-low :
-    goal.put_right-turn_left-requires-in-Left-clause-low
-put_right-turn_left-requires-in-Left-clause-low t c =
-    let under = under_at (out-Node c.args.node.now).right c.in-Some.rc c.unshare.new.node c.in-Some-get_mut.low.now (ap (λ m. m.right) (sym (out-roll-Node (out-Node c.args.node.now))) ∙ c.in-Some.is) c.unshare.ensures c.in-Some-get_mut.ensures.value in
-    right.balanced_inner c.args.node.now c.in-Some-get_mut.low.now c.put_in.new.node c.args.row.now.value c.requires.ready c.requires.behind under c.side_of-side.result c.in_ok-put_in.field-0 c.in_ok-put_in.ensures.ok c.levels-other_levels.result c.levels-other_levels.ensures c.side_of-side.ensures (right.is_grew c.args.node.now c.in-Some-get_mut.low.now c.put_in.new.node c.args.row.now.value c.requires.ready c.requires.behind under c.side_of-side.result c.in_ok-put_in.field-0 c.in_ok-put_in.ensures.ok c.levels-other_levels.result c.levels-other_levels.ensures c.side_of-side.ensures c.in-Grew.is).0.balanced
-
--- src/insert.rt:183:21
-pub put_right-turn_left-requires-in-Left-clause-other :
-    goal.put_right-turn_left-requires-in-Left-clause-other
-put_right-turn_left-requires-in-Left-clause-other t c =
-    let under = under_at (out-Node c.args.node.now).right c.in-Some.rc c.unshare.new.node c.in-Some-get_mut.low.now (ap (λ m. m.right) (sym (out-roll-Node (out-Node c.args.node.now))) ∙ c.in-Some.is) c.unshare.ensures c.in-Some-get_mut.ensures.value in
-    right.balanced_other c.args.node.now c.in-Some-get_mut.low.now c.put_in.new.node c.args.row.now.value c.requires.ready c.requires.behind under c.side_of-side.result c.in_ok-put_in.field-0 c.in_ok-put_in.ensures.ok c.levels-other_levels.result c.levels-other_levels.ensures c.side_of-side.ensures
-
--- src/insert.rt:183:21
-pub put_right-turn_left-requires-in-Left-clause-few :
-    goal.put_right-turn_left-requires-in-Left-clause-few
-put_right-turn_left-requires-in-Left-clause-few t c =
-    let under = under_at (out-Node c.args.node.now).right c.in-Some.rc c.unshare.new.node c.in-Some-get_mut.low.now (ap (λ m. m.right) (sym (out-roll-Node (out-Node c.args.node.now))) ∙ c.in-Some.is) c.unshare.ensures c.in-Some-get_mut.ensures.value in
-    right.few_inner c.args.node.now c.in-Some-get_mut.low.now c.put_in.new.node c.args.row.now.value c.requires.ready c.requires.behind under c.side_of-side.result c.in_ok-put_in.field-0 c.in_ok-put_in.ensures.ok c.levels-other_levels.result c.levels-other_levels.ensures c.side_of-side.ensures (right.is_grew c.args.node.now c.in-Some-get_mut.low.now c.put_in.new.node c.args.row.now.value c.requires.ready c.requires.behind under c.side_of-side.result c.in_ok-put_in.field-0 c.in_ok-put_in.ensures.ok c.levels-other_levels.result c.levels-other_levels.ensures c.side_of-side.ensures c.in-Grew.is).0.rows
-
--- src/insert.rt:132:1
-pub put_right-returns-in-Counted-clause-ok : goal.put_right-returns-in-Counted-clause-ok
-put_right-returns-in-Counted-clause-ok t c =
-    let under = under_at (out-Node c.args.node.now).right c.in-Some.rc c.unshare.new.node c.in-Some-get_mut.low.now (ap (λ m. m.right) (sym (out-roll-Node (out-Node c.args.node.now))) ∙ c.in-Some.is) c.unshare.ensures c.in-Some-get_mut.ensures.value in
-    at_counted_right c.args.node.now c.args.row.now.value c.requires.ready c.requires.behind (tree_of c.put_in.new.node) _ (counted_with_right c.args.node.now _) (right.is_counted c.args.node.now c.in-Some-get_mut.low.now c.put_in.new.node c.args.row.now.value c.requires.ready c.requires.behind under c.side_of-side.result c.in_ok-put_in.field-0 c.in_ok-put_in.ensures.ok c.levels-other_levels.result c.levels-other_levels.ensures c.side_of-side.ensures c.in-Counted.is)
-
--- src/insert.rt:132:1
-pub put_right-returns-in-Over-clause-ok : goal.put_right-returns-in-Over-clause-ok
-put_right-returns-in-Over-clause-ok t c =
-    let under = under_at (out-Node c.args.node.now).right c.in-Some.rc c.unshare.new.node c.in-Some-get_mut.low.now (ap (λ m. m.right) (sym (out-roll-Node (out-Node c.args.node.now))) ∙ c.in-Some.is) c.unshare.ensures c.in-Some-get_mut.ensures.value in
-    at_turned_right c.args.node.now c.args.row.now.value c.requires.ready c.requires.behind _ _ _ _ _ _ (right.turned_whole c.args.node.now (roll-Node (out-Node c.args.node.now)) c.put_in.new.node _ c.swap.new.y c.swap.new.x (roll-out-Node c.args.node.now) c.swap.ensures.y_after c.swap.ensures.x_after c.turn_left.ensures.low c.turn_left.ensures.row c.turn_left.ensures.other refl refl) (right.is_over c.args.node.now c.in-Some-get_mut.low.now c.put_in.new.node c.args.row.now.value c.requires.ready c.requires.behind under c.side_of-side.result c.in_ok-put_in.field-0 c.in_ok-put_in.ensures.ok c.levels-other_levels.result c.levels-other_levels.ensures c.side_of-side.ensures c.in-Over.is).0 (right.is_over c.args.node.now c.in-Some-get_mut.low.now c.put_in.new.node c.args.row.now.value c.requires.ready c.requires.behind under c.side_of-side.result c.in_ok-put_in.field-0 c.in_ok-put_in.ensures.ok c.levels-other_levels.result c.levels-other_levels.ensures c.side_of-side.ensures c.in-Over.is).1
-
--- src/insert.rt:132:1
-pub put_right-returns-in-Open-clause-ok : goal.put_right-returns-in-Open-clause-ok
-put_right-returns-in-Open-clause-ok t c =
-    let under = under_at (out-Node c.args.node.now).right c.in-Some.rc c.unshare.new.node c.in-Some-get_mut.low.now (ap (λ m. m.right) (sym (out-roll-Node (out-Node c.args.node.now))) ∙ c.in-Some.is) c.unshare.ensures c.in-Some-get_mut.ensures.value in
-    let level = ap levels_of (tree_out c.put_in.new.node) in
-    rw c.in-Open.is
-    (at_grown_right c.args.node.now c.args.row.now.value c.requires.ready c.requires.behind (tree_of c.put_in.new.node) _ (grown_with_right c.args.node.now _) (right.is_grew c.args.node.now c.in-Some-get_mut.low.now c.put_in.new.node c.args.row.now.value c.requires.ready c.requires.behind under c.side_of-side.result c.in_ok-put_in.field-0 c.in_ok-put_in.ensures.ok c.levels-other_levels.result c.levels-other_levels.ensures c.side_of-side.ensures c.in-Grew.is).0 (right.is_grew c.args.node.now c.in-Some-get_mut.low.now c.put_in.new.node c.args.row.now.value c.requires.ready c.requires.behind under c.side_of-side.result c.in_ok-put_in.field-0 c.in_ok-put_in.ensures.ok c.levels-other_levels.result c.levels-other_levels.ensures c.side_of-side.ensures c.in-Grew.is).1
-    (let high = c.if-low-other_levels.false in let other = c.levels-other_levels.ensures in omega arith))
-
--- src/insert.rt:132:1
-pub put_right-returns-in-Right-clause-ok : goal.put_right-returns-in-Right-clause-ok
-put_right-returns-in-Right-clause-ok t c =
-    let under = under_at (out-Node c.args.node.now).right c.in-Some.rc c.unshare.new.node c.in-Some-get_mut.low.now (ap (λ m. m.right) (sym (out-roll-Node (out-Node c.args.node.now))) ∙ c.in-Some.is) c.unshare.ensures c.in-Some-get_mut.ensures.value in
-    let level = ap levels_of (tree_out c.put_in.new.node) in
-    rw c.in-Right.is
-    (at_over_right c.args.node.now c.args.row.now.value c.requires.ready c.requires.behind (tree_of c.put_in.new.node) _ _ _ (with_right c.args.node.now _) (right.is_grew c.args.node.now c.in-Some-get_mut.low.now c.put_in.new.node c.args.row.now.value c.requires.ready c.requires.behind under c.side_of-side.result c.in_ok-put_in.field-0 c.in_ok-put_in.ensures.ok c.levels-other_levels.result c.levels-other_levels.ensures c.side_of-side.ensures c.in-Grew.is).0 (right.is_grew c.args.node.now c.in-Some-get_mut.low.now c.put_in.new.node c.args.row.now.value c.requires.ready c.requires.behind under c.side_of-side.result c.in_ok-put_in.field-0 c.in_ok-put_in.ensures.ok c.levels-other_levels.result c.levels-other_levels.ensures c.side_of-side.ensures c.in-Grew.is).1
-    (let high = c.if-low-other_levels.false in let other = c.levels-other_levels.ensures in omega arith))
-
--- src/insert.rt:132:1
-pub put_right-returns-in-Left-clause-ok : goal.put_right-returns-in-Left-clause-ok
-put_right-returns-in-Left-clause-ok t c =
-    let under = under_at (out-Node c.args.node.now).right c.in-Some.rc c.unshare.new.node c.in-Some-get_mut.low.now (ap (λ m. m.right) (sym (out-roll-Node (out-Node c.args.node.now))) ∙ c.in-Some.is) c.unshare.ensures c.in-Some-get_mut.ensures.value in
-    let level = ap levels_of (tree_out c.put_in.new.node) in
-    rw c.in-Left.is
-    (at_inner_right c.args.node.now c.args.row.now.value c.requires.ready c.requires.behind _ _ _ _ _ _ _ _ (right.inner_whole c.args.node.now (roll-Node (out-Node c.args.node.now)) c.put_in.new.node _ c.swap-in-Left.new.y c.swap-in-Left.new.x (roll-out-Node c.args.node.now) c.swap-in-Left.ensures.y_after c.swap-in-Left.ensures.x_after c.turn_left-in-Left.ensures.low c.turn_left-in-Left.ensures.row c.turn_left-in-Left.ensures.other refl refl) (subst (λ w. IsHigher 1 (tree_under (out-Node c.args.node.now).right) c.args.row.now.value w) (tree_out c.put_in.new.node) (right.is_grew c.args.node.now c.in-Some-get_mut.low.now c.put_in.new.node c.args.row.now.value c.requires.ready c.requires.behind under c.side_of-side.result c.in_ok-put_in.field-0 c.in_ok-put_in.ensures.ok c.levels-other_levels.result c.levels-other_levels.ensures c.side_of-side.ensures c.in-Grew.is).0) (right.is_grew c.args.node.now c.in-Some-get_mut.low.now c.put_in.new.node c.args.row.now.value c.requires.ready c.requires.behind under c.side_of-side.result c.in_ok-put_in.field-0 c.in_ok-put_in.ensures.ok c.levels-other_levels.result c.levels-other_levels.ensures c.side_of-side.ensures c.in-Grew.is).1
-    (let high = c.if-low-other_levels.false in let other = c.levels-other_levels.ensures in omega arith))
+pub put_in-returns-in_ok-growth-2-clause-ok : goal.put_in-returns-in_ok-growth-2-clause-ok
+put_in-returns-in_ok-growth-2-clause-ok t c =
+    put_in_node c.args.node.now c.args.row.now.value c.requires.ready c.args.above c.in_ok-growth-2.growth (tree_under c.put_at-else-number-number_of.new.far) (tree_under c.put_at-else-number-number_of.new.near) _ _ _ (tree_roll _) c.count-else-number-number_of.ensures c.in_ok-growth-2.ensures.ok
