@@ -1,7 +1,6 @@
 -- What an answer to a line tells of its form.
-use Rattle.std.proofs.Common.{◌≡◌, ℕ, List, [], ◌∷◌, ◌++◌, Result, Ok, Err, sym, ◌∙◌, subst}
+use Rattle.std.proofs.Common.{ℕ, List, [], ◌∷◌, ◌++◌, Err, sym, subst}
 use Rattle.std.proofs.lemmas.List.{append_cancel_right}
-use Rattle.trace_model.specs.Audit.{LineSays}
 use Rattle.trace_model.specs.TraceLines.{Says, TraceLine}
 use Rattle.trace_lines.specs.Meant.{Tells}
 use Rattle.trace_lines.specs.declared.line.LineError.{LineError}

@@ -1,5 +1,5 @@
 -- What the reads of a source make of the trace.
-use Rattle.std.proofs.Common.{◌≡◌, ◌+◌, ◌≤◌, min, ℕ, List, [], ◌++◌, length, take, subst, sym, refl, ap, ◌∙◌, Option, Result, Ok, Err, inl, inr}
+use Rattle.std.proofs.Common.{◌≡◌, ◌+◌, ◌≤◌, min, ℕ, List, ◌++◌, length, take, subst, sym, Option, Result, Ok, Err, inr}
 use Rattle.std.specs.Io.KnownBytes.{IsAtEnd}
 use Rattle.trace_audit.proofs.Pieces.{judged_part}
 use Rattle.record_stream.proofs.Pieces.{piece_all}

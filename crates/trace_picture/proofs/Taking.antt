@@ -3,15 +3,14 @@ use Rattle.std.proofs.Common.{◌≡◌, ◌≢◌, ℕ, ◌+◌, ◌<◌, ◌�
 use Rattle.std.specs.List.{AllByRecursion}
 use Rattle.record_stream.proofs.Lacking.{Lacks}
 use Rattle.record_cutting.specs.Lines.{last_part, line_if_any, lines_of, whole_lines}
-use Rattle.trace_model.specs.TraceLines.{TraceLine, max_line}
+use Rattle.trace_model.specs.TraceLines.{max_line}
 use Rattle.trace_lines.specs.declared.line.LineError.{LineError}
 use Rattle.trace_lines.specs.declared.line.LineError.TheVariants as errors
 use Rattle.trace_audit.proofs.Feeds.{begun, ended_last, ended_lines, kept_last, kept_lines, last_none, lines_after, says_nothing, too_long}
 use Rattle.trace_audit.proofs.Taking.{no_lines}
 use Rattle.trace_picture.specs.declared.source.Front.{Front}
-use Rattle.trace_picture.specs.declared.source.Read.TheVariants as read
 use Rattle.trace_picture.specs.Forms.{AllHaveForms, HasForm, IsFirstBad, IsFirstBadFrom}
-use Rattle.trace_picture.specs.Taking.{Finishes, IsFront, IsTold, IsWithinLine, TakesBytes}
+use Rattle.trace_picture.specs.Taking.{IsFront, IsTold, IsWithinLine, TakesBytes}
 
 pub all_append : (ls ms : List (List ℕ)) → AllByRecursion HasForm ls → AllByRecursion HasForm ms → AllByRecursion HasForm (ls ++ ms)
 all_append [] ms p q = q

@@ -1,5 +1,5 @@
 -- How the drawing of a source ends.
-use Rattle.std.specs.Prelude.{◌≡◌, ℕ, ◌≤◌, ◌<◌, ◌⊎◌, List, length, take, Option, ⊤}
+use Rattle.std.specs.Prelude.{ℕ, ◌≤◌, ◌<◌, ◌⊎◌, List, length, take, Option, ⊤}
 use Rattle.std.specs.Io.KnownBytes.{IsAtEnd}
 use Rattle.record_cutting.specs.Lines.{lines_of}
 use Rattle.trace_audit.specs.declared.source.TheConstants.{MAX_TRACE}

@@ -1,7 +1,5 @@
-use Rattle.std.proofs.Common.{[], ◌∷◌, ◌++◌, Err, refl, subst}
-use Rattle.trace_model.specs.TraceLines.{Says, TraceLine}
-use Rattle.trace_lines.specs.Meant.{Tells, meant}
-use Rattle.trace_lines.specs.declared.line.LineError.{LineError}
+use Rattle.std.proofs.Common.{refl}
+use Rattle.trace_lines.specs.Meant.{meant}
 use Rattle.trace_picture.proofs.Forms.{answered_error}
 use Rattle.trace_picture.proofs.reader.Reader.line.Goals as goal
 
