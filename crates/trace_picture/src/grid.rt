@@ -1,5 +1,6 @@
 //! The places of a picture: where a lane runs, where a row stands, how large the picture is.
-ghost use Rattle.std.specs.Prelude.{◌≤◌, ◌<◌, ◌+◌};
+ghost use Rattle.std.specs.Prelude.{◌≡◌, ◌≤◌};
+ghost use Rattle.trace_picture.specs.Places.{width_of};
 
 use crate::parts::{Picture, Row};
 use crate::signs::text_of;
@@ -128,11 +129,15 @@ impl Grid {
         })
     }
 
-    pub fn width(&self) -> u64 {
+    pub fn width(&self) -> u64
+        ensures { result ≡ width_of self.now }
+    {
         LANES_LEFT + LANE_STEP * self.lanes.min(MOST_LANES) + SIDE_WIDTH
     }
 
-    pub fn height(&self) -> u64 {
+    pub fn height(&self) -> u64
+        ensures { self.now.bottom ≤ result }
+    {
         self.bottom.saturating_add(FOOT_HEIGHT)
     }
 
@@ -147,7 +152,9 @@ impl Grid {
     }
 
     /// Where a lane runs.
-    pub fn lane_x(&self, lane: usize) -> u64 {
+    pub fn lane_x(&self, lane: usize) -> u64
+        ensures { result ≤ width_of self.now }
+    {
         LANES_LEFT + LANE_STEP * (lane as u64).min(self.lanes.min(MOST_LANES)) + 20
     }
 
@@ -157,7 +164,9 @@ impl Grid {
     }
 
     /// Where a row begins.
-    pub fn row_top(&self, row: usize) -> u64 {
+    pub fn row_top(&self, row: usize) -> u64
+        ensures { result ≤ self.now.bottom }
+    {
         match self.tops.get(row) {
             Some(top) => (*top).min(self.bottom),
             None => self.bottom,
@@ -165,12 +174,17 @@ impl Grid {
     }
 
     /// Where the first line of a row stands.
-    pub fn row_y(&self, row: usize) -> u64 {
+    pub fn row_y(&self, row: usize) -> u64
+        ensures { result ≤ self.now.bottom }
+    {
         self.row_top(row).saturating_add(15).min(self.bottom)
     }
 
-    /// A lane at a row.
-    pub fn at(&self, lane: usize, row: usize) -> Point {
+    /// A lane at a row: within the picture.
+    pub fn at(&self, lane: usize, row: usize) -> Point
+        ensures across { result.x ≤ width_of self.now }
+        ensures down { result.y ≤ self.now.bottom }
+    {
         Point {
             x: self.lane_x(lane),
             y: self.row_y(row),
