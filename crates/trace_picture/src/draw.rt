@@ -1,18 +1,24 @@
 //! The picture is drawn.
 
-use crate::grid::{Grid, LINE_HEIGHT, Spot, mark_width, toward};
+use crate::grid::{Grid, LANE_STEP, LINE_HEIGHT, Spot, mark_width, toward};
 use crate::legend::{DEFINITIONS, STYLE, draw_legend};
 use crate::messages::is_drawn;
 use crate::parts::{Fate, Kind, Lane, Mark, Message, Picture, Remark, Repeat, Row, Sign, State};
 use crate::signs::{class_of, symbol_of, text_of};
 use crate::svg::{
-    Point, close_group, open_group, push_circle, push_label, push_line, push_rect, push_symbol,
-    push_text,
+    Point, close_group, open_group, push_circle, push_curve, push_label, push_line, push_rect,
+    push_symbol, push_text,
 };
 use std::alloc::{AllocError, Global};
 
 /// How far an arrow stays away from the middle of its lanes.
 const GAP: u64 = 10;
+
+/// How far an arrow over other lanes is bent.
+const BEND: u64 = 26;
+
+/// How far a mark's symbol stands to the left of its lane.
+const SYMBOL_LEFT: u64 = 36;
 
 /// The most letters of a row's text.
 const MOST_LETTERS: usize = 66;
@@ -215,6 +221,7 @@ fn draw_message(out: &mut String, grid: &Grid, message: &Message) -> Result<(), 
     close_group(out)
 }
 
+/// An arrow; one over a lane between is bent, so that it does not run through the dots there.
 fn draw_arrow(out: &mut String, from: Point, to: Point) -> Result<(), AllocError> {
     let start = Point {
         x: toward(from.x, to.x, GAP),
@@ -224,7 +231,12 @@ fn draw_arrow(out: &mut String, from: Point, to: Point) -> Result<(), AllocError
         x: toward(to.x, from.x, GAP + 1),
         y: to.y,
     };
-    push_line(out, "arrow", start, end)
+    let bend = if from.x.abs_diff(to.x) > LANE_STEP {
+        BEND
+    } else {
+        0
+    };
+    push_curve(out, "arrow", start, end, bend)
 }
 
 /// A line that ends with a cross half way to the lane at `to`.
@@ -439,7 +451,7 @@ fn draw_mark(
             out,
             name,
             Point {
-                x: at.x.saturating_sub(24),
+                x: at.x.saturating_sub(SYMBOL_LEFT),
                 y: at.y,
             },
         )?;

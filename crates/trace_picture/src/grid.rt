@@ -10,7 +10,7 @@ use std::alloc::{AllocError, Global};
 /// Where the lanes begin, and how far they stand from one another.
 const LANES_LEFT: u64 = 500;
 
-const LANE_STEP: u64 = 180;
+pub const LANE_STEP: u64 = 180;
 
 /// The most lanes that have a place of their own: there are no more ids.
 const MOST_LANES: u64 = 65_535;

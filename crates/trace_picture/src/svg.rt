@@ -63,6 +63,24 @@ pub fn push_line(out: &mut String, class: &str, from: Point, to: Point) -> Resul
     )
 }
 
+/// A line that bends down by half of `bend` in its middle.
+pub fn push_curve(
+    out: &mut String,
+    class: &str,
+    from: Point,
+    to: Point,
+    bend: u64,
+) -> Result<(), AllocError> {
+    let Point { x: x1, y: y1 } = from;
+    let Point { x: x2, y: y2 } = to;
+    let x = (x1 / 2).saturating_add(x2 / 2);
+    let y = (y1 / 2).saturating_add(y2 / 2).saturating_add(bend);
+    write!(
+        out,
+        "<path class=\"{class}\" d=\"M{x1} {y1}Q{x} {y} {x2} {y2}\"/>"
+    )
+}
+
 /// A rectangle from its upper left corner.
 pub fn push_rect(
     out: &mut String,
