@@ -4,12 +4,12 @@
 mod options;
 
 use byte_streams::{StdSink, StdSource, write_all};
+use options::read_options;
 use std::alloc::Global;
 use std::env::{self, Env};
 use std::io::ErrorKind;
 use std::process::ExitCode;
 use trace_picture::{Drawn, View, draw_source};
-use options::read_options;
 
 /// Why there is no picture.
 #[derive(Clone, Copy, Debug, PartialEq, Eq)]
