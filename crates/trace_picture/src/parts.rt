@@ -37,6 +37,17 @@ pub struct Lane {
     /// The highest term and the highest promise that its lines tell.
     pub term: u64,
     pub promise: u64,
+    /// What it was when its state was saved.
+    pub saved: Vec<Saved>,
+}
+
+/// What a replica was when its state was saved under a number.
+#[derive(Clone, Copy, Debug, PartialEq, Eq)]
+pub struct Saved {
+    pub number: u64,
+    pub state: State,
+    pub term: u64,
+    pub promise: u64,
 }
 
 /// What a message is, as far as its arrow shows it.

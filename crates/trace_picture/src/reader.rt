@@ -4,7 +4,7 @@ ghost use Rattle.trace_picture.specs.Taking.{IsTold};
 
 use crate::effect::{Effect, actor_of, client_place, effect_of};
 use crate::fields::{cut, is_word, number, push_client, push_fields};
-use crate::lanes::{enter, lane_of};
+use crate::lanes::{enter, lane_of, put_back, save};
 use crate::messages::{kind_of, promise_of, push_message, term_of};
 use crate::notes::{note_of, push_line};
 use crate::parts::{Fate, Mark, Message, Picture, Remark, Repeat, Row, Sign, State, Text};
@@ -335,6 +335,7 @@ impl Reader {
             return self.mark(lane, Sign::Halt(what), line);
         }
         if is_word(word, "saved") {
+            save(&mut self.picture.lanes, lane, what)?;
             return self.mark(lane, Sign::Saved(what), line);
         }
         self.mark(lane, Sign::Taken(what), line)
@@ -459,13 +460,11 @@ impl Reader {
 
     fn roll(&mut self, replica: ReplicaId, state: u32) -> Result<(), Memory> {
         let place = lane_of(self.alloc, &mut self.picture.lanes, replica)?;
+        let number = u64::from(state);
+        let state = put_back(&mut self.picture.lanes, place, number);
         self.enter_lane(place, State::Absent)?;
-        self.enter_lane(place, State::Follows)?;
-        if let Some(lane) = self.picture.lanes.get_mut(place) {
-            lane.term = 0;
-            lane.promise = 0;
-        }
-        self.mark(place, Sign::Rolled(u64::from(state)), b"")
+        self.enter_lane(place, state)?;
+        self.mark(place, Sign::Rolled(number), b"")
     }
 
     fn lose(&mut self, place: usize) -> Result<(), Memory> {
