@@ -1,0 +1,4 @@
+pub mod Escaping
+pub mod Forms
+pub mod Taking
+pub mod Pieces
