@@ -1,5 +1,4 @@
-//! The chain of hashes over a log: each entry's hash is taken of the hash before it, of its place and of its content,
-//! by SHA-256 (FIPS 180-4).
+//! The chain of hashes over a log: each entry's hash is taken of the hash before it, of its place and of its content.
 #![tactic(auto)]
 
 ghost use Rattle.std.specs.Prelude.{◌≡◌, ◌++◌, ◌∷◌, [], replicate};
