@@ -298,7 +298,7 @@ module _ (logs : LogsAreTheModels) (h : Holder) (s : model.Replica) (st : HoldsF
           ∙ (ap (λ n. drop n es) (let k : s.base + (stay - s.base) ≡ length (take stay s.path) = (let f = front in omega (arith, low, up, f)) in k)
           ∙ drop-append_seam (take stay s.path) (added stay o)))))
 
-      told-same : LogStandsFor sha_link w (commit_to spliced_call upto).state → told_so_far ≡ (told spliced_call).batch
+      told-same : LogStandsFor sha_link w (commit_to spliced_call upto).state → told_so_far ≡ (with_sent spliced_call).batch
       told-same log =
           ap (λ xs. record b { members = b.members ++ xs; answers = b.answers ++ given_up cut_told h.tickets }) (members-same log)
           ∙ (ap (λ xs. record b { members = b.members ++ filter_map members_of (numbered_from (stay + 1) (added stay o)); answers = b.answers ++ xs })

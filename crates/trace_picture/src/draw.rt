@@ -31,7 +31,7 @@ const HELP: &'static str =
     "Time runs downward. Hover over an arrow, a dot, a mark or a text to see its line of the trace.";
 
 /// Draws a picture.
-pub fn draw(alloc: Global, picture: &Picture) -> Result<String, AllocError> {
+pub(crate) fn draw(alloc: Global, picture: &Picture) -> Result<String, AllocError> {
     let grid = Grid::new(alloc, picture)?;
     let mut out = String::new(alloc);
     draw_head(&mut out, &grid, picture)?;

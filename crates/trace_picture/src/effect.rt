@@ -17,7 +17,7 @@ pub enum Effect {
 }
 
 /// The effect of an event.
-pub fn effect_of(event: &Event, messages: &[Message]) -> Effect {
+pub(crate) fn effect_of(event: &Event, messages: &[Message]) -> Effect {
     match event {
         Event::Start { replica } => Effect::Start(*replica),
         Event::Crash { replica } => Effect::Crash(*replica),
@@ -35,7 +35,7 @@ pub fn effect_of(event: &Event, messages: &[Message]) -> Effect {
 }
 
 /// The replica that an event names as the one that acts.
-pub fn actor_of(event: &Event) -> Option<ReplicaId> {
+pub(crate) fn actor_of(event: &Event) -> Option<ReplicaId> {
     match event {
         Event::Start { replica }
         | Event::Tick { replica }
@@ -53,7 +53,7 @@ pub fn actor_of(event: &Event) -> Option<ReplicaId> {
 }
 
 /// Which field of an event's record is a client.
-pub fn client_place(event: &Event) -> Option<usize> {
+pub(crate) fn client_place(event: &Event) -> Option<usize> {
     match event {
         Event::Ask { .. } => Some(2),
         Event::Want { .. } | Event::Say { .. } | Event::Hear { .. } | Event::Again { .. } => Some(

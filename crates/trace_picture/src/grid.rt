@@ -50,7 +50,7 @@ pub struct Grid {
 }
 
 /// The width of a mark of so many letters.
-pub fn mark_width(letters: usize) -> u64 {
+pub(crate) fn mark_width(letters: usize) -> u64 {
     (letters.min(1_000) as u64) * LETTER + BORDER
 }
 
@@ -63,7 +63,7 @@ pub struct Spot {
 
 impl Spot {
     /// Where the first mark goes.
-    pub fn first() -> Spot {
+    pub(crate) fn first() -> Spot {
         Spot {
             right: MARKS_LEFT,
             line: 0,
@@ -71,7 +71,7 @@ impl Spot {
     }
 
     /// Where a mark of this width goes that comes to this spot: on the next line where there is no room for it.
-    pub fn fit(self, width: u64) -> Spot {
+    pub(crate) fn fit(self, width: u64) -> Spot {
         if self.right > MARKS_LEFT && self.right.saturating_add(width) > MARKS_RIGHT {
             return Spot {
                 right: MARKS_LEFT,
@@ -82,7 +82,7 @@ impl Spot {
     }
 
     /// The spot behind a mark of this width.
-    pub fn after(self, width: u64) -> Spot {
+    pub(crate) fn after(self, width: u64) -> Spot {
         Spot {
             right: self.right.saturating_add(width).saturating_add(3),
             line: self.line,
@@ -101,7 +101,7 @@ fn lines_of(alloc: Global, row: &Row) -> Result<u64, AllocError> {
 }
 
 /// A place from `from` toward `to`, at most so far.
-pub fn toward(from: u64, to: u64, by: u64) -> u64
+pub(crate) fn toward(from: u64, to: u64, by: u64) -> u64
     ensures rises { from ≤ to → (from ≤ result) × (result ≤ to) }
     ensures falls { to ≤ from → (to ≤ result) × (result ≤ from) }
 {
@@ -114,7 +114,7 @@ pub fn toward(from: u64, to: u64, by: u64) -> u64
 
 impl Grid {
     /// The places of this picture.
-    pub fn new(alloc: Global, picture: &Picture) -> Result<Grid, AllocError> {
+    pub(crate) fn new(alloc: Global, picture: &Picture) -> Result<Grid, AllocError> {
         let mut tops = Vec::new(alloc);
         let mut bottom = ROWS_TOP;
         for row in picture.rows.as_slice() {
@@ -129,42 +129,42 @@ impl Grid {
         })
     }
 
-    pub fn width(&self) -> u64
+    pub(crate) fn width(&self) -> u64
         ensures { result ≡ width_of self.now }
     {
         LANES_LEFT + LANE_STEP * self.lanes.min(MOST_LANES) + SIDE_WIDTH
     }
 
-    pub fn height(&self) -> u64
+    pub(crate) fn height(&self) -> u64
         ensures { self.now.bottom ≤ result }
     {
         self.bottom.saturating_add(FOOT_HEIGHT)
     }
 
     /// Where the first row begins.
-    pub fn top(&self) -> u64 {
+    pub(crate) fn top(&self) -> u64 {
         ROWS_TOP
     }
 
     /// Where the last row ends.
-    pub fn bottom(&self) -> u64 {
+    pub(crate) fn bottom(&self) -> u64 {
         self.bottom
     }
 
     /// Where a lane runs.
-    pub fn lane_x(&self, lane: usize) -> u64
+    pub(crate) fn lane_x(&self, lane: usize) -> u64
         ensures { result ≤ width_of self.now }
     {
         LANES_LEFT + LANE_STEP * (lane as u64).min(self.lanes.min(MOST_LANES)) + 20
     }
 
     /// Where the remarks begin.
-    pub fn side_x(&self) -> u64 {
+    pub(crate) fn side_x(&self) -> u64 {
         LANES_LEFT + LANE_STEP * self.lanes.min(MOST_LANES)
     }
 
     /// Where a row begins.
-    pub fn row_top(&self, row: usize) -> u64
+    pub(crate) fn row_top(&self, row: usize) -> u64
         ensures { result ≤ self.now.bottom }
     {
         match self.tops.get(row) {
@@ -174,14 +174,14 @@ impl Grid {
     }
 
     /// Where the first line of a row stands.
-    pub fn row_y(&self, row: usize) -> u64
+    pub(crate) fn row_y(&self, row: usize) -> u64
         ensures { result ≤ self.now.bottom }
     {
         self.row_top(row).saturating_add(15).min(self.bottom)
     }
 
     /// A lane at a row: within the picture.
-    pub fn at(&self, lane: usize, row: usize) -> Point
+    pub(crate) fn at(&self, lane: usize, row: usize) -> Point
         ensures across { result.x ≤ width_of self.now }
         ensures down { result.y ≤ self.now.bottom }
     {

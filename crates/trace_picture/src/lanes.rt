@@ -5,7 +5,11 @@ use std::alloc::{AllocError, Global};
 use values::{Memory, ReplicaId};
 
 /// Where the lane of a replica stands; a new one where there is none.
-pub fn lane_of(alloc: Global, lanes: &mut Vec<Lane>, replica: ReplicaId) -> Result<usize, Memory> {
+pub(crate) fn lane_of(
+    alloc: Global,
+    lanes: &mut Vec<Lane>,
+    replica: ReplicaId,
+) -> Result<usize, Memory> {
     if let Some(place) = lanes.iter().position(|lane| lane.replica == replica) {
         return Ok(place);
     }
@@ -23,7 +27,7 @@ pub fn lane_of(alloc: Global, lanes: &mut Vec<Lane>, replica: ReplicaId) -> Resu
 }
 
 /// The state of the lane's replica is saved under this number.
-pub fn save(lanes: &mut Vec<Lane>, place: usize, number: u64) -> Result<(), AllocError> {
+pub(crate) fn save(lanes: &mut Vec<Lane>, place: usize, number: u64) -> Result<(), AllocError> {
     let Some(lane) = lanes.get_mut(place) else {
         return Ok(());
     };
@@ -39,7 +43,7 @@ pub fn save(lanes: &mut Vec<Lane>, place: usize, number: u64) -> Result<(), Allo
 
 /// Puts back the term and the promise of the state that was saved under this number, and answers what the replica did then. Of the first
 /// state, 0, and of one of which no line tells, it follows.
-pub fn put_back(lanes: &mut Vec<Lane>, place: usize, number: u64) -> State {
+pub(crate) fn put_back(lanes: &mut Vec<Lane>, place: usize, number: u64) -> State {
     let Some(lane) = lanes.get_mut(place) else {
         return State::Follows;
     };
@@ -57,7 +61,7 @@ pub fn put_back(lanes: &mut Vec<Lane>, place: usize, number: u64) -> State {
 }
 
 /// From this row on the replica does this.
-pub fn enter(
+pub(crate) fn enter(
     lanes: &mut Vec<Lane>,
     place: usize,
     state: State,

@@ -117,7 +117,7 @@ fn caption(out: &mut String, at: Point, text: &str) -> Result<(), AllocError> {
 }
 
 /// What the arrows, marks and symbols mean, from this height on.
-pub fn draw_legend(out: &mut String, top: u64) -> Result<(), AllocError> {
+pub(crate) fn draw_legend(out: &mut String, top: u64) -> Result<(), AllocError> {
     out.push_str("<g class=\"legend\">\n")?;
     for (place, (class, text)) in ARROWS.iter().enumerate() {
         draw_arrow(out, spot(top, place), class, text)?;

@@ -5,7 +5,7 @@ use crate::parts::{Fate, Kind, Message, Text};
 use std::alloc::AllocError;
 
 /// The kind of a message, by its fields.
-pub fn kind_of(message: &[&[u8]]) -> Kind {
+pub(crate) fn kind_of(message: &[&[u8]]) -> Kind {
     let [word, rest @ ..] = message else {
         return Kind::Heartbeat;
     };
@@ -62,7 +62,7 @@ fn captions(kind: Kind) -> [&'static str; 5] {
 }
 
 /// Appends what a message says, by its fields.
-pub fn push_message(text: &mut Text, message: &[&[u8]]) -> Result<(), AllocError> {
+pub(crate) fn push_message(text: &mut Text, message: &[&[u8]]) -> Result<(), AllocError> {
     let [word, rest @ ..] = message else {
         return Ok(());
     };
@@ -78,7 +78,7 @@ pub fn push_message(text: &mut Text, message: &[&[u8]]) -> Result<(), AllocError
 }
 
 /// The term of a message.
-pub fn term_of(message: &[&[u8]]) -> u64 {
+pub(crate) fn term_of(message: &[&[u8]]) -> u64 {
     match message {
         [_, term, ..] => number(term),
         _ => 0,
@@ -86,7 +86,7 @@ pub fn term_of(message: &[&[u8]]) -> u64 {
 }
 
 /// The promise that a message tells of its sender.
-pub fn promise_of(message: &[&[u8]]) -> u64 {
+pub(crate) fn promise_of(message: &[&[u8]]) -> u64 {
     match message {
         [word, _, _, _, promise, ..] if is_word(word, "append") => number(promise),
         [word, _, _, promise] if is_word(word, "accepted") => number(promise),
@@ -95,7 +95,7 @@ pub fn promise_of(message: &[&[u8]]) -> u64 {
 }
 
 /// Where the message of this number stands. Messages are numbered from 1 in the order in which they were sent.
-pub fn place_of(messages: &[Message], number: u64) -> Option<usize> {
+pub(crate) fn place_of(messages: &[Message], number: u64) -> Option<usize> {
     let guess = number.saturating_sub(1) as usize;
     match messages.get(guess) {
         Some(message) if message.number == number => Some(guess),
@@ -104,6 +104,6 @@ pub fn place_of(messages: &[Message], number: u64) -> Option<usize> {
 }
 
 /// Whether any of a message falls into the rows of a picture.
-pub fn is_drawn(message: &Message) -> bool {
+pub(crate) fn is_drawn(message: &Message) -> bool {
     message.sent.is_some() || matches!(message.fate, Fate::Delivered { .. } | Fate::Lost { .. })
 }

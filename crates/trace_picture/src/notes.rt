@@ -9,7 +9,7 @@ use std::alloc::{AllocError, Global};
 const MOST: usize = 400;
 
 /// Appends a line to a hover text.
-pub fn push_line(note: &mut Text, line: &[u8]) -> Result<(), AllocError> {
+pub(crate) fn push_line(note: &mut Text, line: &[u8]) -> Result<(), AllocError> {
     if !note.is_empty() {
         note.push(b'\n')?;
     }
@@ -23,7 +23,7 @@ pub fn push_line(note: &mut Text, line: &[u8]) -> Result<(), AllocError> {
 }
 
 /// The hover text of a line.
-pub fn note_of(alloc: Global, line: &[u8]) -> Result<Text, AllocError> {
+pub(crate) fn note_of(alloc: Global, line: &[u8]) -> Result<Text, AllocError> {
     let mut note = Vec::new(alloc);
     push_line(&mut note, line)?;
     Ok(note)

@@ -42,7 +42,7 @@ pub struct Reader {
 
 impl Reader {
     /// No line was taken.
-    pub fn new(alloc: Global, view: View) -> Reader {
+    pub(crate) fn new(alloc: Global, view: View) -> Reader {
         Reader {
             alloc,
             picture: Picture {
@@ -61,7 +61,7 @@ impl Reader {
     }
 
     /// Takes the next line, without its line feed. `Grammar` comes exactly where it has none of the forms of a trace.
-    pub fn line(&mut self, line: &[u8]) -> Result<(), LineError>
+    pub(crate) fn line(&mut self, line: &[u8]) -> Result<(), LineError>
         ensures { IsTold result (line.now ++ 10 ∷ []) }
     {
         match read_line(self.alloc, line) {
@@ -74,7 +74,7 @@ impl Reader {
     }
 
     /// The picture, where no line follows.
-    pub fn finish(self) -> Result<Picture, Memory> {
+    pub(crate) fn finish(self) -> Result<Picture, Memory> {
         let mut reader = self;
         if !reader.is_over {
             reader.end_event()?;

@@ -5,7 +5,7 @@ use schedule_text::push_number;
 use std::alloc::{AllocError, Global};
 
 /// The class of a sign.
-pub fn class_of(sign: Sign) -> &'static str {
+pub(crate) fn class_of(sign: Sign) -> &'static str {
     match sign {
         Sign::Lead(_) => "lead",
         Sign::Term(_) => "term",
@@ -23,7 +23,7 @@ pub fn class_of(sign: Sign) -> &'static str {
 }
 
 /// The symbol that stands to the left of the lane.
-pub fn symbol_of(sign: Sign) -> Option<&'static str> {
+pub(crate) fn symbol_of(sign: Sign) -> Option<&'static str> {
     match sign {
         Sign::Halt(_) => Some("s-halt"),
         Sign::Saved(_) => Some("s-save"),
@@ -34,7 +34,7 @@ pub fn symbol_of(sign: Sign) -> Option<&'static str> {
 }
 
 /// The text of a mark.
-pub fn text_of(alloc: Global, mark: &Mark) -> Result<Text, AllocError> {
+pub(crate) fn text_of(alloc: Global, mark: &Mark) -> Result<Text, AllocError> {
     let (word, number) = word_of(mark.sign);
     let mut text = Vec::from_slice(alloc, word.as_bytes())?;
     if let Some(number) = number {

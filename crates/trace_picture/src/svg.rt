@@ -13,7 +13,7 @@ pub struct Point {
 }
 
 /// Writes bytes as text of an element or of an attribute: what is not printed in ASCII as a question mark.
-pub fn push_text(out: &mut String, text: &[u8]) -> Result<(), AllocError>
+pub(crate) fn push_text(out: &mut String, text: &[u8]) -> Result<(), AllocError>
     ensures written { OnOk result (string_bytes out.new ≡ string_bytes out.old ++ escaped text.now) }
     // It has no `<`, `>` or `"`.
     ensures inert { list_all is_inert (escaped text.now) ≡ true }
@@ -38,23 +38,28 @@ fn push_byte(out: &mut String, byte: u8) -> Result<(), AllocError>
 }
 
 /// The hover text of the element that is open.
-pub fn push_note(out: &mut String, note: &[u8]) -> Result<(), AllocError> {
+pub(crate) fn push_note(out: &mut String, note: &[u8]) -> Result<(), AllocError> {
     out.push_str("<title>")?;
     push_text(out, note)?;
     out.push_str("</title>")
 }
 
 /// Opens a group of this class, with a hover text.
-pub fn open_group(out: &mut String, class: &str, note: &[u8]) -> Result<(), AllocError> {
+pub(crate) fn open_group(out: &mut String, class: &str, note: &[u8]) -> Result<(), AllocError> {
     write!(out, "<g class=\"{class}\">")?;
     push_note(out, note)
 }
 
-pub fn close_group(out: &mut String) -> Result<(), AllocError> {
+pub(crate) fn close_group(out: &mut String) -> Result<(), AllocError> {
     out.push_str("</g>\n")
 }
 
-pub fn push_line(out: &mut String, class: &str, from: Point, to: Point) -> Result<(), AllocError> {
+pub(crate) fn push_line(
+    out: &mut String,
+    class: &str,
+    from: Point,
+    to: Point,
+) -> Result<(), AllocError> {
     let Point { x: x1, y: y1 } = from;
     let Point { x: x2, y: y2 } = to;
     write!(
@@ -64,7 +69,7 @@ pub fn push_line(out: &mut String, class: &str, from: Point, to: Point) -> Resul
 }
 
 /// A line that bends down by half of `bend` in its middle.
-pub fn push_curve(
+pub(crate) fn push_curve(
     out: &mut String,
     class: &str,
     from: Point,
@@ -82,7 +87,7 @@ pub fn push_curve(
 }
 
 /// A rectangle from its upper left corner.
-pub fn push_rect(
+pub(crate) fn push_rect(
     out: &mut String,
     class: &str,
     corner: Point,
@@ -96,7 +101,7 @@ pub fn push_rect(
     )
 }
 
-pub fn push_circle(
+pub(crate) fn push_circle(
     out: &mut String,
     class: &str,
     center: Point,
@@ -110,13 +115,18 @@ pub fn push_circle(
 }
 
 /// A symbol of the picture's definitions.
-pub fn push_symbol(out: &mut String, name: &str, at: Point) -> Result<(), AllocError> {
+pub(crate) fn push_symbol(out: &mut String, name: &str, at: Point) -> Result<(), AllocError> {
     let Point { x, y } = at;
     write!(out, "<use href=\"#{name}\" x=\"{x}\" y=\"{y}\"/>")
 }
 
 /// A text whose line begins at a place.
-pub fn push_label(out: &mut String, class: &str, at: Point, text: &[u8]) -> Result<(), AllocError> {
+pub(crate) fn push_label(
+    out: &mut String,
+    class: &str,
+    at: Point,
+    text: &[u8],
+) -> Result<(), AllocError> {
     let Point { x, y } = at;
     write!(out, "<text class=\"{class}\" x=\"{x}\" y=\"{y}\">")?;
     push_text(out, text)?;
