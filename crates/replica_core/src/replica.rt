@@ -192,7 +192,7 @@ impl State {
         requires range { IsInputInRange input.now }
         requires empty { batch.old ≡ empty_batch }
         ensures sound { OnOk result (IsSoundState self.new) }
-        ensures model { (s : model.Replica) (i : told.Input) → StandsFor self.old s → IsInput s input.now i
+        ensures model { (s : model.Replica) (i : model_call.Input) → StandsFor self.old s → IsInput s input.now i
             → OnOk result (StandsFor self.new (step sha_link s i).state × (batch.new ≡ (step sha_link s i).batch)) }
         ensures in_range { IsStateInRange self.old → IsStepBatch batch.old
             → OnOk result (IsStateInRange self.new × IsStepBatch batch.new) }
