@@ -6,10 +6,11 @@ use Rattle.record_cutting.specs.Lines.{last_part, line_if_any, lines_of, whole_l
 use Rattle.trace_model.specs.TraceLines.{max_line}
 use Rattle.trace_lines.specs.declared.line.LineError.{LineError}
 use Rattle.trace_lines.specs.declared.line.LineError.TheVariants as errors
-use Rattle.trace_audit.proofs.Feeds.{begun, ended_last, ended_lines, kept_last, kept_lines, last_none, lines_after, says_nothing, too_long}
+use Rattle.trace_audit.proofs.Feeds.{begun, ended_last, ended_lines, kept_last, kept_lines, last_none, lines_after}
 use Rattle.trace_audit.proofs.Taking.{no_lines}
 use Rattle.trace_picture.specs.declared.source.Front.{Front}
 use Rattle.trace_picture.specs.Forms.{AllHaveForms, HasForm, IsFirstBad, IsFirstBadFrom}
+use Rattle.trace_picture.proofs.GivenUp.{cut_has_none, long_has_none}
 use Rattle.trace_picture.specs.Taking.{IsFront, IsTold, IsWithinLine, TakesBytes}
 
 pub all_append : (ls ms : List (List ℕ)) → AllByRecursion HasForm ls → AllByRecursion HasForm ms → AllByRecursion HasForm (ls ++ ms)
@@ -86,7 +87,7 @@ start_refused f n bytes start lacks s count long = λ rest.
       cut = lines_after (bytes ++ start) rest ∙ ap (λ (ls : List (List ℕ)). ls ++ (whole_lines p rest ++ line_if_any (last_part p rest))) (kept_lines bytes start lacks) ∙ ap (λ (ls : List (List ℕ)). whole_lines [] bytes ++ ls) next.cut;
       number = ap (λ (k : ℕ). k + 1) (count ∙ s.lines);
       passed = s.passed;
-      none = λ has. too_long p next.line size next.ends has.0 has.1;
+      none = long_has_none p next.line size next.ends;
     }
 
 -- ---- the end of the trace
@@ -106,7 +107,7 @@ ends_within f bytes s some = record {
   cut = ap (λ (ls : List (List ℕ)). whole_lines [] bytes ++ ls) (cut_off (last_part [] bytes) (λ e. some (s.pending ∙ e)));
   number = ap (λ (k : ℕ). k + 1) s.lines;
   passed = s.passed;
-  none = λ has. says_nothing (last_part [] bytes) (last_none [] bytes refl) has.0 has.1;
+  none = cut_has_none (last_part [] bytes) (last_none [] bytes refl);
 }
 
 -- ---- what is answered to a line

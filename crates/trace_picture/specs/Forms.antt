@@ -1,13 +1,24 @@
--- Which lines have one of the forms of a trace.
-use Rattle.std.specs.Prelude.{◌≡◌, ℕ, ◌+◌, List, ◌∷◌, ◌++◌, length}
+-- Which lines have one of the forms of a trace, also of a driven one.
+use Rattle.std.specs.Prelude.{◌≡◌, ℕ, ◌+◌, ◌⊎◌, List, ◌∷◌, ◌++◌, length, IsTrue}
 use Rattle.std.specs.List.{AllByRecursion}
 use Rattle.record_cutting.specs.Lines.{lines_of}
+use Rattle.schedule_model.specs.Lines.{hex}
 use Rattle.trace_model.specs.Audit.{LineSays}
-use Rattle.trace_model.specs.TraceLines.{TraceLine}
+use Rattle.trace_model.specs.Driven.{gave_up}
+use Rattle.trace_model.specs.TraceLines.{TraceLine, is_client_id}
+use Rattle.values.specs.declared.ids.ClientId.{ClientId}
 
--- a line, with its line feed, has one
+-- a field is a client as it is written
+abbrev pub IsClient : List ℕ → Type 0
+IsClient field = (c : ClientId) × IsTrue (is_client_id c) × (field ≡ hex c.0)
+
+-- a line, with its line feed, says that a driver gave up the want of a client
+abbrev pub IsGaveUp : List ℕ → Type 0
+IsGaveUp line = (c : ClientId) × IsTrue (is_client_id c) × (line ≡ gave_up c)
+
+-- a line, with its line feed, has a form
 abbrev pub HasForm : List ℕ → Type 0
-HasForm line = (what : TraceLine) × LineSays line what
+HasForm line = ((what : TraceLine) × LineSays line what) ⊎ IsGaveUp line
 
 -- each line of these bytes has one
 abbrev pub AllHaveForms : List ℕ → Type 0

@@ -7,6 +7,7 @@
 mod draw;
 mod effect;
 mod fields;
+mod gaveup;
 mod grid;
 mod lanes;
 mod legend;

@@ -1,9 +1,10 @@
 //! The model of a picture is made, line by line.
-ghost use Rattle.std.specs.Prelude.{◌∷◌, ◌++◌, []};
+ghost use Rattle.std.specs.Prelude.{◌≡◌, ◌∷◌, ◌++◌, [], IfErr};
 ghost use Rattle.trace_picture.specs.Taking.{IsTold};
 
 use crate::effect::{Effect, actor_of, client_place, effect_of};
 use crate::fields::{cut, is_word, number, push_client, push_fields};
+use crate::gaveup::is_gaveup;
 use crate::lanes::{enter, lane_of, put_back, save};
 use crate::messages::{kind_of, promise_of, push_message, term_of};
 use crate::notes::{note_of, push_line};
@@ -60,15 +61,16 @@ impl Reader {
         }
     }
 
-    /// Takes the next line, without its line feed. `Grammar` comes exactly where it has none of the forms of a trace.
+    /// Takes the next line, without its line feed. `Grammar` comes exactly where it has none of the forms of a trace, and does not say
+    /// that a driver gave up.
     pub(crate) fn line(&mut self, line: &[u8]) -> Result<(), LineError>
         ensures { IsTold result (line.now ++ 10 ∷ []) }
     {
+        if is_gaveup(line) {
+            return answered(self.gave_up(line));
+        }
         match read_line(self.alloc, line) {
-            Ok(said) => match self.take(&said, line) {
-                Ok(()) => Ok(()),
-                Err(Memory) => Err(LineError::Memory),
-            },
+            Ok(said) => answered(self.take(&said, line)),
             Err(error) => Err(error),
         }
     }
@@ -410,6 +412,23 @@ impl Reader {
         self.remark(true, text, line)
     }
 
+    /// `gaveup,C,16`
+    fn gave_up(&mut self, line: &[u8]) -> Result<(), Memory> {
+        if self.is_over {
+            return Ok(());
+        }
+        let fields = cut(self.alloc, line)?;
+        let [_, client, turns, ..] = fields.as_slice() else {
+            return Ok(());
+        };
+        let mut text = Vec::new(self.alloc);
+        push_client(&mut text, client)?;
+        text.extend_from_slice(b": the driver gave up after ")?;
+        push_fields(&mut text, &[*turns], None)?;
+        text.extend_from_slice(b" turns")?;
+        self.remark(true, text, line)
+    }
+
     fn remark(&mut self, is_report: bool, text: Text, line: &[u8]) -> Result<(), Memory> {
         let note = note_of(self.alloc, line)?;
         if let Some(row) = self.picture.rows.last_mut() {
@@ -498,6 +517,16 @@ impl Reader {
             }
         }
         self.raise_term(to, term, b"")
+    }
+}
+
+/// What is answered to a line that was taken, or for which memory ran out.
+fn answered(taken: Result<(), Memory>) -> Result<(), LineError>
+    ensures { IfErr result (λ error. error ≡ LineError.Memory) }
+{
+    match taken {
+        Ok(()) => Ok(()),
+        Err(Memory) => Err(LineError::Memory),
     }
 }
 

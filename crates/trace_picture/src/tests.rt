@@ -14,6 +14,10 @@ const THREE: &'static str =
 const HALTS: &'static str =
     "event,1,begin,1,100,1,2,3\nevent,2,tick,1\nsent,1,1,2,askvote,1,0,0\nsent,2,1,3,askvote,1,0,0\nevent,3,deliver,1\nsent,3,2,1,vote,1,1\nevent,4,deliver,2\nsent,4,3,1,vote,1,1\nevent,5,deliver,3\nevent,6,deliver,4\nlead,1,1\nsent,5,1,2,append,1,0,1,0,0\nsent,6,1,3,append,1,0,1,0,0\nevent,7,deliver,5\nsent,7,2,1,accepted,1,1,0\nevent,8,deliver,6\nsent,8,3,1,accepted,1,1,0\nevent,9,deliver,7\nevent,10,deliver,8\nsent,9,1,2,append,1,1,0,1,0\nsent,10,1,3,append,1,1,0,1,0\nevent,11,deliver,9\nsent,11,2,1,accepted,1,1,1\nevent,12,deliver,10\nsent,12,3,1,accepted,1,1,1\nevent,13,deliver,11\nevent,14,deliver,12\ncommit,1,1,1,noop\nsent,13,1,2,append,1,1,0,1,1\nsent,14,1,3,append,1,1,0,1,1\nevent,15,deliver,13\ncommit,2,1,1,noop\nsent,15,2,1,accepted,1,1,1\nevent,16,deliver,14\ncommit,3,1,1,noop\nsent,16,3,1,accepted,1,1,1\nevent,17,deliver,15\nevent,18,deliver,16\nevent,19,save,2\nsaved,2,1\nevent,20,ask,1,00000000000000000000000000000001,1,12360a10aaaaaaaaaaaaaaaaaaaaaaaaaaaaaaaa122011111111111111111111111111111111111111111111111111111111111111111803\nsent,17,1,2,append,1,1,1,1,1\nsent,18,1,3,append,1,1,1,1,1\nevent,21,deliver,17\nsent,19,2,1,accepted,1,2,1\nevent,22,deliver,18\nsent,20,3,1,accepted,1,2,1\nevent,23,deliver,19\nevent,24,deliver,20\nsent,21,1,2,append,1,2,0,2,1\nsent,22,1,3,append,1,2,0,2,1\nevent,25,deliver,21\nsent,23,2,1,accepted,1,2,2\nevent,26,deliver,22\nsent,24,3,1,accepted,1,2,2\nevent,27,deliver,23\nevent,28,deliver,24\ncommit,1,2,1,ask,00000000000000000000000000000001,1,12360a10aaaaaaaaaaaaaaaaaaaaaaaaaaaaaaaa122011111111111111111111111111111111111111111111111111111111111111111803\nanswer,1,1,00000000000000000000000000000001,1,outcome,2,done,0a020801\nsent,25,1,2,append,1,2,0,2,2\nsent,26,1,3,append,1,2,0,2,2\nevent,29,deliver,25\ncommit,2,2,1,ask,00000000000000000000000000000001,1,12360a10aaaaaaaaaaaaaaaaaaaaaaaaaaaaaaaa122011111111111111111111111111111111111111111111111111111111111111111803\nsent,27,2,1,accepted,1,2,2\nevent,30,deliver,26\ncommit,3,2,1,ask,00000000000000000000000000000001,1,12360a10aaaaaaaaaaaaaaaaaaaaaaaaaaaaaaaa122011111111111111111111111111111111111111111111111111111111111111111803\nsent,28,3,1,accepted,1,2,2\nevent,31,deliver,27\nevent,32,deliver,28\nevent,33,tick,2\nsent,29,2,1,askvote,2,2,1\nsent,30,2,3,askvote,2,2,1\nevent,34,deliver,29\nsent,31,1,2,vote,2,1\nevent,35,deliver,30\nsent,32,3,2,vote,2,1\nevent,36,roll,2,1\nevent,37,tick,2\nsent,33,2,1,askvote,2,1,1\nsent,34,2,3,askvote,2,1,1\nevent,38,deliver,31\nevent,39,deliver,32\nlead,2,2\nsent,35,2,1,append,2,1,1,1,1\nsent,36,2,3,append,2,1,1,1,1\nevent,40,deliver,35\nhalt,1,2,d65ece3d95eaf047ca8b9e931b88f9ca754bd3034377f8ed9b2af30efba7be15,d91f517380d31953df95b5c82963cfb37bb4916f281987020c81259cb4f00210\nevent,41,deliver,36\nhalt,3,2,d65ece3d95eaf047ca8b9e931b88f9ca754bd3034377f8ed9b2af30efba7be15,d91f517380d31953df95b5c82963cfb37bb4916f281987020c81259cb4f00210\nevent,42,ask,1,00000000000000000000000000000001,2,2200\nanswer,2,1,00000000000000000000000000000001,2,halted,2\nlog,2\nrollbacks,within\nend,42,36,2\n";
 
+/// The end of a driven trace: the only voter has crashed, and the turns for a want end without a report.
+const GIVEN_UP: &'static str =
+    "event,1,begin,0,100,1\nevent,2,crash,1\nevent,3,want,00000000000000000000000000000001,recover,1111111111111111111111111111111111111111111111111111111111111111\nevent,4,say,00000000000000000000000000000001,1\nrefused,notrunning,1\ngaveup,00000000000000000000000000000001,16\nlog,0\nrollbacks,within\nend,4,0,0\n";
+
 /// The picture of a trace, its source read by pieces of 100 bytes.
 fn drawn(alloc: Global, trace: &str, view: View) -> Result<Drawn, AllocError> {
     let bytes = Vec::from_slice(alloc, trace.as_bytes())?;
@@ -58,12 +62,37 @@ fn each_message_is_drawn_once(rt: HostRuntime) -> Result<(), Fail> {
 }
 
 #[test]
+fn a_want_given_up_is_drawn_with_its_line(rt: HostRuntime) -> Result<(), Fail> {
+    let view = View { from: 1, to: 400 };
+    let all = picture(rt.alloc(), GIVEN_UP, view)?;
+    assert_eq!(rt;
+        count(all.as_str(), "client 1: the driver gave up after 16 turns"),
+        1
+    );
+    assert_eq!(rt;
+        count(all.as_str(), "gaveup,00000000000000000000000000000001,16"),
+        1
+    );
+    let before = picture(rt.alloc(), GIVEN_UP, View { from: 1, to: 3 })?;
+    assert_eq!(rt; count(before.as_str(), "gave up"), 0);
+    Ok(())
+}
+
+#[test]
 fn a_line_that_is_none_has_its_number(rt: HostRuntime) -> Result<(), Fail> {
     let view = View { from: 1, to: 1 };
     let rows = [
         ("event,1,begin,0,100,1\nevent,2,tick,1\nlead,1\n", 3),
         ("event,1,begin,0,100,1\nevent,2,tick,1\nlead,1,1", 3),
         ("\n", 1),
+        (
+            "gaveup,0000000000000000000000000000000a,16\ngaveup,0000000000000000000000000000000A,16\n",
+            2,
+        ),
+        ("gaveup,000000000000000000000000000001,16\n", 1),
+        ("gaveup,0000000000000000000000000000000g,16\n", 1),
+        ("gaveup,00000000000000000000000000000001,15\n", 1),
+        ("gaveup,16\n", 1),
     ];
     for (trace, line) in rows {
         let number = match drawn(rt.alloc(), trace, view)? {
